@@ -11,9 +11,9 @@ use Rattle.std.proofs.lemmas.List.Sorted.{All-permutation, IsPermutation-reverse
 use Rattle.first_places.specs.Places.{first_place as found_place}
 use Rattle.pn_text.specs.Bytes.{is_white_space}
 use Rattle.pn_text.specs.Lines.{is_lf}
-use Rattle.pn_text.specs.Places.{behind_byte, behind_bytes, first_place}
+use Rattle.pn_text.specs.Places.{behind_byte, after_bytes, first_place}
 use Rattle.pn_text.specs.Words.{Word, NameWord, NumberWord, SignWord, is_name}
-use Rattle.pn_text.specs.Writing.{are_legible, follow, written}
+use Rattle.pn_text.specs.Writing.{are_legible, follow, pieces_text}
 use Rattle.pn_text.specs.declared.place.Place.{Place}
 use Rattle.pn_text.specs.declared.token.Sign.TheVariants.{Semicolon}
 use Rattle.pn_text.proofs.Legible.{legible_reads}
@@ -77,18 +77,18 @@ named_text gap word name rest words tail e = simp append_assoc (ap (λ (t : List
 numbered_text : (gap name number rest words tail : List ℕ) → 10 ∷ rest ≡ words ++ tail → gap ++ ((codes "threshold " ++ (name ++ (codes " " ++ (number ++ codes ";\n")))) ++ rest) ≡ (gap ++ (codes "threshold" ++ 32 ∷ (name ++ 32 ∷ (number ++ 59 ∷ words)))) ++ tail
 numbered_text gap name number rest words tail e = simp append_assoc (ap (λ (t : List ℕ). gap ++ (codes "threshold " ++ (name ++ 32 ∷ (number ++ 59 ∷ t)))) e)
 
-acts_written : (gap : List ℕ) (acts : List DirectiveAct) → list_all is_written acts ≡ true → gap ++ flat_map act_text acts ≡ written (pieces gap acts) ++ last_gap gap acts
+acts_written : (gap : List ℕ) (acts : List DirectiveAct) → list_all is_written acts ≡ true → gap ++ flat_map act_text acts ≡ pieces_text (pieces gap acts) ++ last_gap gap acts
 acts_written gap [] h = append-nil gap
 acts_written gap (Prune name ∷ acts) h =
     let more = acts_written (codes "\n") acts (and_parts (is_name name) (list_all is_written acts) h).1 in
-    named_text gap (codes "prune") name (flat_map act_text acts) (written (pieces (codes "\n") acts)) (last_gap (codes "\n") acts) more
+    named_text gap (codes "prune") name (flat_map act_text acts) (pieces_text (pieces (codes "\n") acts)) (last_gap (codes "\n") acts) more
 acts_written gap (PruneAxis name axis ∷ acts) h = cc
 acts_written gap (Threshold name threshold ∷ acts) h =
     let more = acts_written (codes "\n") acts (and_parts (is_name name && nat_le threshold most_threshold) (list_all is_written acts) h).1 in
-    numbered_text gap name (decimal threshold) (flat_map act_text acts) (written (pieces (codes "\n") acts)) (last_gap (codes "\n") acts) more
+    numbered_text gap name (decimal threshold) (flat_map act_text acts) (pieces_text (pieces (codes "\n") acts)) (last_gap (codes "\n") acts) more
 acts_written gap (First name ∷ acts) h =
     let more = acts_written (codes "\n") acts (and_parts (is_name name) (list_all is_written acts) h).1 in
-    named_text gap (codes "first") name (flat_map act_text acts) (written (pieces (codes "\n") acts)) (last_gap (codes "\n") acts) more
+    named_text gap (codes "first") name (flat_map act_text acts) (pieces_text (pieces (codes "\n") acts)) (last_gap (codes "\n") acts) more
 
 -- ---- they are legible
 
@@ -127,32 +127,32 @@ last_white gap (act ∷ acts) h = last_white (codes "\n") acts refl
 -- ---- each stands on its line
 
 -- bytes without an LF keep the line
-still : (place : Place) (bytes : List ℕ) → is_one_line bytes ≡ true → (behind_bytes place bytes).line ≡ place.line
+still : (place : Place) (bytes : List ℕ) → is_one_line bytes ≡ true → (after_bytes place bytes).line ≡ place.line
 still place [] h = refl
 still place (byte ∷ bytes) h =
     let each = and_parts (not (is_lf byte)) (is_one_line bytes) h in
     still (behind_byte place byte) bytes each.1 ∙ rw (not-true (byte == 10) each.0) refl
 
-spelled : (n : ℕ) (place : Place) (gap : List ℕ) (acts : List DirectiveAct) → list_all is_written acts ≡ true → (behind_bytes place gap).line ≡ n → Spells (flat_map directive_words (from_line n acts)) (placed place (pieces gap acts))
+spelled : (n : ℕ) (place : Place) (gap : List ℕ) (acts : List DirectiveAct) → list_all is_written acts ≡ true → (after_bytes place gap).line ≡ n → Spells (flat_map directive_words (from_line n acts)) (placed place (pieces gap acts))
 spelled n place gap [] h e = tt
 spelled n place gap (Prune name ∷ acts) h e =
     let each = and_parts (is_name name) (list_all is_written acts) h in
-    let front = behind_bytes (behind_bytes place gap) (codes "prune ") in
+    let front = after_bytes (after_bytes place gap) (codes "prune ") in
     let line = still front name (word_line name (name_above name each.0)) ∙ e in
-    ((refl, e), (refl, (refl, spelled (n + 1) (behind_bytes (behind_bytes front name) (codes ";")) (codes "\n") acts each.1 (ap (λ (m : ℕ). m + 1) line))))
+    ((refl, e), (refl, (refl, spelled (n + 1) (after_bytes (after_bytes front name) (codes ";")) (codes "\n") acts each.1 (ap (λ (m : ℕ). m + 1) line))))
 spelled n place gap (PruneAxis name axis ∷ acts) h e = cc
 spelled n place gap (Threshold name threshold ∷ acts) h e =
     let each = and_parts (is_name name && nat_le threshold most_threshold) (list_all is_written acts) h in
     let two = and_parts (is_name name) (nat_le threshold most_threshold) each.0 in
-    let front = behind_bytes (behind_bytes place gap) (codes "threshold ") in
-    let middle = behind_bytes (behind_bytes front name) (codes " ") in
+    let front = after_bytes (after_bytes place gap) (codes "threshold ") in
+    let middle = after_bytes (after_bytes front name) (codes " ") in
     let line = still middle (decimal threshold) (decimal_line threshold) ∙ (still front name (word_line name (name_above name two.0)) ∙ e) in
-    ((refl, e), (refl, (refl, (refl, spelled (n + 1) (behind_bytes (behind_bytes middle (decimal threshold)) (codes ";")) (codes "\n") acts each.1 (ap (λ (m : ℕ). m + 1) line)))))
+    ((refl, e), (refl, (refl, (refl, spelled (n + 1) (after_bytes (after_bytes middle (decimal threshold)) (codes ";")) (codes "\n") acts each.1 (ap (λ (m : ℕ). m + 1) line)))))
 spelled n place gap (First name ∷ acts) h e =
     let each = and_parts (is_name name) (list_all is_written acts) h in
-    let front = behind_bytes (behind_bytes place gap) (codes "first ") in
+    let front = after_bytes (after_bytes place gap) (codes "first ") in
     let line = still front name (word_line name (name_above name each.0)) ∙ e in
-    ((refl, e), (refl, (refl, spelled (n + 1) (behind_bytes (behind_bytes front name) (codes ";")) (codes "\n") acts each.1 (ap (λ (m : ℕ). m + 1) line))))
+    ((refl, e), (refl, (refl, spelled (n + 1) (after_bytes (after_bytes front name) (codes ";")) (codes "\n") acts each.1 (ap (λ (m : ℕ). m + 1) line))))
 
 -- ---- the hypotheses
 
@@ -242,13 +242,13 @@ advice_text vs =
 -- lines of what is done are read as that
 acts_read : (acts : List DirectiveAct) → list_all is_written acts ≡ true → IsDirectives (flat_map act_text acts) (from_line 1 acts)
 acts_read acts h =
-    let text = written (pieces [] acts) ++ last_gap [] acts in
+    let text = pieces_text (pieces [] acts) ++ last_gap [] acts in
     let white = last_white [] acts refl in
     let legible = lines_legible acts h in
     let words : placed_words text ≡ placed first_place (pieces [] acts) = placed_there (pieces [] acts) (last_gap [] acts) legible white in
     subst (λ (t : List ℕ). IsDirectives t (from_line 1 acts)) (sym (acts_written [] acts h))
     (record {
-      last = behind_bytes first_place text;
+      last = after_bytes first_place text;
       end = (legible_reads (pieces [] acts) (last_gap [] acts) legible white).end;
       spelled = subst (λ (found : List PlacedWord). Spells (flat_map directive_words (from_line 1 acts)) found) (sym words) (spelled 1 first_place [] acts h refl);
     })

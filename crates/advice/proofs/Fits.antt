@@ -6,12 +6,12 @@ use Rattle.std.proofs.lemmas.Bool.{le-leb}
 use Rattle.std.proofs.lemmas.Fmt.{length-decimal-le}
 use Rattle.pn_text.specs.Words.{is_name}
 use Rattle.pn_text.proofs.Decimals.{decimal_spells}
-use Rattle.advice.specs.Words.{are_as, is_focus, is_number, number_at, number_of, word_at, words}
+use Rattle.advice.specs.Words.{are_as, is_focus, is_number, number_at, decimal_number, word_at, words}
 
 -- ---- numbers
 
 -- a number is read from its digits
-pub number_read : (n : ℕ) → n < 2 ^ 64 → number_of (decimal n) ≡ Some n
+pub number_read : (n : ℕ) → n < 2 ^ 64 → decimal_number (decimal n) ≡ Some n
 number_read n h =
     let s = decimal_spells n h in
     let few : length (decimal n) ≤ 20 = length-decimal-le 20 n (omega arith) (omega arith) h in
@@ -21,7 +21,7 @@ number_read n h =
 pub number_fits : (n : ℕ) → n < 2 ^ 64 → is_number (decimal n) ≡ true
 number_fits n h = ap is_some (number_read n h)
 
-pub number_is : (n : ℕ) (text : List ℕ) → number_of text ≡ Some n → is_number text ≡ true
+pub number_is : (n : ℕ) (text : List ℕ) → decimal_number text ≡ Some n → is_number text ≡ true
 number_is n text e = ap is_some e
 
 -- ---- words by their places
@@ -29,8 +29,8 @@ number_is n text e = ap is_some e
 pub word_there : (k : ℕ) (line : List ℕ) (ws : List (List ℕ)) → words line ≡ ws → word_at k line ≡ unwrap_or (slice_get ws k) []
 word_there k line ws is = ap (λ (all : List (List ℕ)). unwrap_or (slice_get all k) []) is
 
-pub number_there : (k n : ℕ) (text line : List ℕ) → word_at k line ≡ text → number_of text ≡ Some n → number_at k line ≡ n
-number_there k n text line is e = ap (λ (w : List ℕ). unwrap_or (number_of w) 0) is ∙ ap (λ (o : Option ℕ). unwrap_or o 0) e
+pub number_there : (k n : ℕ) (text line : List ℕ) → word_at k line ≡ text → decimal_number text ≡ Some n → number_at k line ≡ n
+number_there k n text line is e = ap (λ (w : List ℕ). unwrap_or (decimal_number w) 0) is ∙ ap (λ (o : Option ℕ). unwrap_or o 0) e
 
 -- ---- forms
 

@@ -3,8 +3,8 @@ use Rattle.std.proofs.Common.{◌≡◌, ℕ, ◌<◌, ◌==◌, Bool, true, fal
 use Rattle.std.specs.Option.{unwrap_or}
 use Rattle.std.proofs.lemmas.Bool.{lt-ltb}
 use Rattle.std.proofs.lemmas.List.Splits.{length-slice_split}
-use Rattle.advice.specs.Lines.{barred_form, false_form, is_false, is_node, is_true, is_untold, told, true_form, verdict_of, waiting_form}
-use Rattle.advice.specs.Words.{are_as, has_form, is_number, number_of, word_at, words}
+use Rattle.advice.specs.Lines.{barred_form, false_form, is_false, is_node, is_true, is_untold, verdict_of_line, true_form, verdict_of, waiting_form}
+use Rattle.advice.specs.Words.{are_as, has_form, is_number, decimal_number, word_at, words}
 use Rattle.advice.specs.declared.verdict.Verdict.{Verdict}
 use Rattle.advice.proofs.Fits.{head_forms, head_words, number_is, number_there, verdict_forms, verdict_fits, word_there}
 
@@ -42,8 +42,8 @@ module _ (line number phase parent hypothesis focus : List ℕ) where
   abbrev verdict_words : List ℕ → List ℕ → List ℕ → List ℕ → List ℕ → List (List ℕ)
   verdict_words verdict value ticks from to = verdict ∷ codes "value" ∷ value ∷ codes "ticks" ∷ ticks ∷ codes "from" ∷ from ∷ codes "to" ∷ to ∷ []
 
-  module _ (value ticks from to : List ℕ) (n m : ℕ) (a : number_of value ≡ Some n) (b : number_of ticks ≡ Some m) (c : is_number from ≡ true) (d : is_number to ≡ true) where
-    told_is : (holds : Bool) (verdict : List ℕ) → IsHeaded (verdict_words verdict value ticks from to) → told holds line ≡ record { hypothesis = hypothesis; holds = holds; value = n; ticks = m }
+  module _ (value ticks from to : List ℕ) (n m : ℕ) (a : decimal_number value ≡ Some n) (b : decimal_number ticks ≡ Some m) (c : is_number from ≡ true) (d : is_number to ≡ true) where
+    told_is : (holds : Bool) (verdict : List ℕ) → IsHeaded (verdict_words verdict value ticks from to) → verdict_of_line holds line ≡ record { hypothesis = hypothesis; holds = holds; value = n; ticks = m }
     told_is holds verdict is =
         let ws = verdict_words verdict value ticks from to in
         rw (word_is 6 ws is, number_there 10 n value line (word_is 10 ws is) a, number_there 12 m ticks line (word_is 12 ws is) b) refl

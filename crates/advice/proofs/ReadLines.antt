@@ -5,7 +5,7 @@ use Rattle.std.specs.List.{All}
 use Rattle.std.proofs.lemmas.List.Elements.{All-append, All-cons, All-nil}
 use Rattle.std.proofs.lemmas.Bool.{ltb-true}
 use Rattle.advice.specs.Advice.{HasTicks}
-use Rattle.advice.specs.Lines.{after, first_line, is_true, told_in, true_form}
+use Rattle.advice.specs.Lines.{due_after, first_line, is_true, told_in, true_form}
 use Rattle.advice.specs.Reading.{Step, onto, step, step_on, verdicts_from}
 use Rattle.advice.specs.Words.{has_form, number_at}
 use Rattle.advice.specs.declared.due.Due.{Due}
@@ -32,10 +32,10 @@ passing due at (suc k) (byte ∷ bytes) h =
     passing due (at + 1) k bytes (omega arith) ∙ ap (λ (n : ℕ). verdicts_from due n 0 (drop k bytes)) same
 
 -- a line of the form that is due
-stepped : (due next : Due) (bytes line : List ℕ) → first_line due bytes ≡ Some line → after due line ≡ Some next → step due bytes ≡ Some (record { length = length line; told = told_in due line; next = next })
+stepped : (due next : Due) (bytes line : List ℕ) → first_line due bytes ≡ Some line → due_after due line ≡ Some next → step due bytes ≡ Some (record { length = length line; told = told_in due line; next = next })
 stepped due next bytes line first said = rw (first, said) refl
 
-pub line_step : (due next : Due) (at : ℕ) (bytes line : List ℕ) → length line < length bytes → first_line due bytes ≡ Some line → after due line ≡ Some next → verdicts_from due at 0 bytes ≡ onto (option_to_list (told_in due line)) (verdicts_from next (at + (length line + 1)) 0 (drop (length line + 1) bytes))
+pub line_step : (due next : Due) (at : ℕ) (bytes line : List ℕ) → length line < length bytes → first_line due bytes ≡ Some line → due_after due line ≡ Some next → verdicts_from due at 0 bytes ≡ onto (option_to_list (told_in due line)) (verdicts_from next (at + (length line + 1)) 0 (drop (length line + 1) bytes))
 line_step due next at [] line h first said = absurd (omega arith)
 line_step due next at (byte ∷ bytes) line h first said =
     let place : at + 1 + length line ≡ at + (length line + 1) = omega arith in
@@ -47,10 +47,10 @@ line_step due next at (byte ∷ bytes) line h first said =
     ∙ ap (onto (option_to_list (told_in due line))) rest
 
 -- a line that isn't
-refused : (due : Due) (bytes line : List ℕ) → first_line due bytes ≡ Some line → after due line ≡ None → step due bytes ≡ None
+refused : (due : Due) (bytes line : List ℕ) → first_line due bytes ≡ Some line → due_after due line ≡ None → step due bytes ≡ None
 refused due bytes line first wrong = rw (first, wrong) refl
 
-pub fault_step : (due : Due) (at : ℕ) (bytes line : List ℕ) → 0 < length bytes → first_line due bytes ≡ Some line → after due line ≡ None → verdicts_from due at 0 bytes ≡ Err (BadReport at)
+pub fault_step : (due : Due) (at : ℕ) (bytes line : List ℕ) → 0 < length bytes → first_line due bytes ≡ Some line → due_after due line ≡ None → verdicts_from due at 0 bytes ≡ Err (BadReport at)
 fault_step due at [] line h first wrong = absurd (omega arith)
 fault_step due at (byte ∷ bytes) line h first wrong =
     ap (λ (o : Option Step). option_map_or (λ s. onto (option_to_list s.told) (verdicts_from s.next (at + 1) s.length bytes)) o (Err (BadReport at))) (refused due (byte ∷ bytes) line first wrong)

@@ -15,7 +15,7 @@ use Rattle.report.specs.declared.parts.ShownPart.{ShownPart}
 use Rattle.report.specs.SearchTexts.{node_line, node_lines, search_head, search_lines}
 use Rattle.report.specs.ShownTexts.{bin_line, bin_lines, histogram_line, refused_line, shown_lines}
 use Rattle.report.specs.Text.{counts_line, hart_line, hart_lines, output_lines, report_text}
-use Rattle.advice.specs.Lines.{after}
+use Rattle.advice.specs.Lines.{due_after}
 use Rattle.advice.specs.Reading.{verdicts_from}
 use Rattle.advice.specs.Seams.{AreSearchLines, IsHistogramLine, IsNodeLine, IsReadable, IsRefusedLine, IsSmall, ReportIsRead, is_one_line, verdict_on, verdicts_in}
 use Rattle.advice.specs.declared.due.Due.{Due}
@@ -55,7 +55,7 @@ record HeadRead (text : List ℕ) (count : ℕ) : Type 0 where
   pub body : List ℕ
   pub is : text ≡ body ++ 10 ∷ []
   pub one : is_one_line body ≡ true
-  pub due : after Shown body ≡ Some (Nodes count)
+  pub due : due_after Shown body ≡ Some (Nodes count)
 
 head : (full : Bool) (count : ℕ) → IsSmall count → HeadRead (codes "search nodes " ++ (decimal count ++ cond full (codes " full\n") (codes "\n"))) count
 head true count small =

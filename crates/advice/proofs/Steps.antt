@@ -6,10 +6,10 @@ use Rattle.std.proofs.Math.Seq.{drop-append-add, take-append_seam}
 use Rattle.pn_text.specs.Bytes.{begins_with}
 use Rattle.pn_text.specs.Lines.{is_lf}
 use Rattle.pn_text.proofs.WordLexemes.{prefix_len-append}
-use Rattle.advice.specs.Lines.{after, first_line, is_node, is_search, is_shown, to_lf, told_in, verdict_of}
+use Rattle.advice.specs.Lines.{due_after, first_line, is_node, is_search, is_shown, to_lf, told_in, verdict_of}
 use Rattle.advice.specs.Reading.{onto, verdicts_from}
 use Rattle.advice.specs.Seams.{is_one_line}
-use Rattle.advice.specs.Words.{are_as, has_form, is_number, number_of, words}
+use Rattle.advice.specs.Words.{are_as, has_form, is_number, decimal_number, words}
 use Rattle.advice.specs.declared.due.Due.{Due}
 use Rattle.advice.specs.declared.due.Due.TheVariants.{Title, Counts, Harts, Output, Shown, Nodes}
 use Rattle.advice.specs.declared.verdict.Verdict.{Verdict}
@@ -28,7 +28,7 @@ to_lf_line line rest h =
     let inside : length line < length (line ++ 10 ∷ rest) = omega (arith, length-append line (10 ∷ rest)) in
     rw (place, lt-ltb (length line) (length (line ++ 10 ∷ rest)) inside) (ap Some (take-append_seam line (10 ∷ rest)))
 
-pub step_on : (due next : Due) (line rest : List ℕ) (vs : List Verdict) → first_line due (line ++ 10 ∷ rest) ≡ Some line → after due line ≡ Some next → Reads next rest vs → Reads due (line ++ 10 ∷ rest) (option_to_list (told_in due line) ++ vs)
+pub step_on : (due next : Due) (line rest : List ℕ) (vs : List Verdict) → first_line due (line ++ 10 ∷ rest) ≡ Some line → due_after due line ≡ Some next → Reads next rest vs → Reads due (line ++ 10 ∷ rest) (option_to_list (told_in due line) ++ vs)
 step_on due next line rest vs first said more at =
     let inside : length line < length (line ++ 10 ∷ rest) = omega (arith, length-append line (10 ∷ rest)) in
     line_step due next at (line ++ 10 ∷ rest) line inside first said
@@ -64,19 +64,19 @@ node_step n line rest vs one said =
 
 -- ---- lines with numbers
 
-pub counts_due : (harts ticks samples skipped line : List ℕ) (count : ℕ) → words line ≡ codes "harts" ∷ harts ∷ codes "ticks" ∷ ticks ∷ codes "samples" ∷ samples ∷ codes "skipped" ∷ skipped ∷ [] → number_of harts ≡ Some count → is_number ticks ≡ true → is_number samples ≡ true → is_number skipped ≡ true → after Counts line ≡ Some (Harts count)
+pub counts_due : (harts ticks samples skipped line : List ℕ) (count : ℕ) → words line ≡ codes "harts" ∷ harts ∷ codes "ticks" ∷ ticks ∷ codes "samples" ∷ samples ∷ codes "skipped" ∷ skipped ∷ [] → decimal_number harts ≡ Some count → is_number ticks ≡ true → is_number samples ≡ true → is_number skipped ≡ true → due_after Counts line ≡ Some (Harts count)
 counts_due harts ticks samples skipped line count is a b c d =
     let form : has_form (codes "harts NUMBER ticks NUMBER samples NUMBER skipped NUMBER") line ≡ true =
     ap (are_as (words (codes "harts NUMBER ticks NUMBER samples NUMBER skipped NUMBER"))) is ∙ rw (number_is count harts a, b, c, d) refl in
     rw (form, number_there 1 count harts line (word_there 1 line _ is) a) refl
 
-pub output_due : (number line : List ℕ) (count : ℕ) → words line ≡ codes "output" ∷ number ∷ [] → number_of number ≡ Some count → after (Harts 0) line ≡ Some (Output count)
+pub output_due : (number line : List ℕ) (count : ℕ) → words line ≡ codes "output" ∷ number ∷ [] → decimal_number number ≡ Some count → due_after (Harts 0) line ≡ Some (Output count)
 output_due number line count is a =
     let form : has_form (codes "output NUMBER") line ≡ true = ap (are_as (words (codes "output NUMBER"))) is ∙ rw (number_is count number a) refl in
     rw (form, number_there 1 count number line (word_there 1 line _ is) a) refl
 
 -- after the number of nodes stands nothing, or that there are no more
-pub nodes_due : (number line : List ℕ) (tail : List (List ℕ)) (count : ℕ) → words line ≡ codes "search" ∷ codes "nodes" ∷ number ∷ tail → number_of number ≡ Some count → is_shown line ≡ false → (are_as [] tail || are_as (codes "full" ∷ []) tail) ≡ true → after Shown line ≡ Some (Nodes count)
+pub nodes_due : (number line : List ℕ) (tail : List (List ℕ)) (count : ℕ) → words line ≡ codes "search" ∷ codes "nodes" ∷ number ∷ tail → decimal_number number ≡ Some count → is_shown line ≡ false → (are_as [] tail || are_as (codes "full" ∷ []) tail) ≡ true → due_after Shown line ≡ Some (Nodes count)
 nodes_due number line tail count is a other said =
     let search : is_search line ≡ true =
     ap (λ (all : List (List ℕ)). are_as (words (codes "search nodes NUMBER")) all || are_as (words (codes "search nodes NUMBER full")) all) is

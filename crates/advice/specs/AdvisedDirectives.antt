@@ -46,8 +46,8 @@ abbrev pub from_line : ℕ → List DirectiveAct → List Directive
 from_line line [] = []
 from_line line (act ∷ acts) = record { line = line; act = act } ∷ from_line (line + 1) acts
 
-abbrev pub advised : List Verdict → List Directive
-advised vs = from_line 1 (acts_of (hypotheses_of vs))
+abbrev pub advised_directives : List Verdict → List Directive
+advised_directives vs = from_line 1 (acts_of (hypotheses_of vs))
 
 -- a verdict on a hypothesis that a directive can name
 abbrev pub IsNamed : Verdict → Type 0
@@ -55,7 +55,7 @@ IsNamed v = is_name v.hypothesis ≡ true
 
 -- The text of an advice spells what is advised.
 abbrev pub AdviceIsRead : Type 0
-AdviceIsRead = (vs : List Verdict) → All IsNamed vs → IsDirectives (advice vs) (advised vs)
+AdviceIsRead = (vs : List Verdict) → All IsNamed vs → IsDirectives (advice vs) (advised_directives vs)
 
 -- ---- one command after another
 
@@ -63,4 +63,4 @@ AdviceIsRead = (vs : List Verdict) → All IsNamed vs → IsDirectives (advice v
 abbrev pub ReportIsAdvised : Type 0
 ReportIsAdvised =
     (parts : ReportParts) (skipped : ℕ) → IsReadable parts skipped
-    → IsDirectives (advice (verdicts_in parts)) (advised (verdicts_in parts))
+    → IsDirectives (advice (verdicts_in parts)) (advised_directives (verdicts_in parts))

@@ -39,11 +39,11 @@ abbrev pub is_node : List ℕ → Bool
 is_node line = is_true line || is_false line || is_untold line
 
 -- the verdict that the line of a node tells
-abbrev pub told : Bool → List ℕ → Verdict
-told holds line = record { hypothesis = word_at 6 line; holds = holds; value = number_at 10 line; ticks = number_at 12 line }
+abbrev pub verdict_of_line : Bool → List ℕ → Verdict
+verdict_of_line holds line = record { hypothesis = word_at 6 line; holds = holds; value = number_at 10 line; ticks = number_at 12 line }
 
 abbrev pub verdict_of : List ℕ → Option Verdict
-verdict_of line = if is_true line then Some (told true line) else if is_false line then Some (told false line) else None
+verdict_of line = if is_true line then Some (verdict_of_line true line) else if is_false line then Some (verdict_of_line false line) else None
 
 -- ---- what is due
 
@@ -60,15 +60,15 @@ abbrev pub due_if : Bool → Due → Option Due
 due_if said due = if said then Some due else None
 
 -- what is due after a line; None where the line doesn't have the form that is due
-abbrev pub after : Due → List ℕ → Option Due
-after Title line = due_if (bytes_eq line (codes "paradyn report 1")) Counts
-after Counts line = due_if (has_form (codes "harts NUMBER ticks NUMBER samples NUMBER skipped NUMBER") line) (Harts (number_at 1 line))
-after (Harts n) line =
+abbrev pub due_after : Due → List ℕ → Option Due
+due_after Title line = due_if (bytes_eq line (codes "paradyn report 1")) Counts
+due_after Counts line = due_if (has_form (codes "harts NUMBER ticks NUMBER samples NUMBER skipped NUMBER") line) (Harts (number_at 1 line))
+due_after (Harts n) line =
     if n == 0 then due_if (has_form (codes "output NUMBER") line) (Output (number_at 1 line))
     else due_if (begins_with (codes "hart ") line) (Harts (n - 1))
-after (Output n) line = Some Shown
-after Shown line = if is_shown line then Some Shown else due_if (is_search line) (Nodes (number_at 2 line))
-after (Nodes n) line = due_if (nat_lt 0 n && is_node line) (Nodes (n - 1))
+due_after (Output n) line = Some Shown
+due_after Shown line = if is_shown line then Some Shown else due_if (is_search line) (Nodes (number_at 2 line))
+due_after (Nodes n) line = due_if (nat_lt 0 n && is_node line) (Nodes (n - 1))
 
 -- a report may end here
 abbrev pub may_end : Due → Bool

@@ -2,7 +2,7 @@
 use Rattle.std.specs.Prelude.{ℕ, zero, suc, ◌+◌, ◌≡◌, if◌then◌else◌, Option, Result, Ok, Err, MatchResult, List, [], ◌∷◌, ◌++◌, length}
 use Rattle.std.specs.Global.{Vec}
 use Rattle.std.specs.Option.{option_and_then, option_map, option_map_or, option_to_list}
-use Rattle.advice.specs.Lines.{after, first_line, may_end, told_in}
+use Rattle.advice.specs.Lines.{due_after, first_line, may_end, told_in}
 use Rattle.advice.specs.declared.due.Due.{Due}
 use Rattle.advice.specs.declared.due.Due.TheVariants.{Title}
 use Rattle.advice.specs.declared.fault.ReportFault.{ReportFault}
@@ -23,7 +23,7 @@ pub record Step : Type 0 where
   pub next : Due
 
 abbrev pub step_on : Due → List ℕ → Option Step
-step_on due line = option_map (λ next. record { length = length line; told = told_in due line; next = next }) (after due line)
+step_on due line = option_map (λ next. record { length = length line; told = told_in due line; next = next }) (due_after due line)
 
 -- the first line of bytes
 abbrev pub step : Due → List ℕ → Option Step
@@ -43,10 +43,10 @@ abbrev pub verdicts_of : List ℕ → Result (List Verdict) ReportFault
 verdicts_of report = verdicts_from Title 0 0 report
 
 -- why a call was refused; running out of memory is always allowed
-abbrev pub Refuses : ReportError → (ReportFault → Type 0) → Type 0
-Refuses (error.Fault fault) why = why fault
-Refuses error.NoMemory why = Unit {0}
+abbrev pub ReportRefuses : ReportError → (ReportFault → Type 0) → Type 0
+ReportRefuses (error.Fault fault) why = why fault
+ReportRefuses error.NoMemory why = Unit {0}
 
 -- the result is what the bytes tell, unless memory runs out
-abbrev pub Tells : Result (Vec Verdict) ReportError → Result (List Verdict) ReportFault → Type 0
-Tells result told = MatchResult result (λ vs. told ≡ Ok vs.items) (λ e. Refuses e (λ fault. told ≡ Err fault))
+abbrev pub ReadsAs : Result (Vec Verdict) ReportError → Result (List Verdict) ReportFault → Type 0
+ReadsAs result told = MatchResult result (λ vs. told ≡ Ok vs.items) (λ e. ReportRefuses e (λ fault. told ≡ Err fault))

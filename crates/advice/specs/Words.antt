@@ -18,12 +18,12 @@ words line = parts 32 line
 -- ---- numbers
 
 -- the number that 1 to 20 digits spell, if it is below 2 ^ 64
-abbrev pub number_of : List ℕ → Option ℕ
-number_of text =
+abbrev pub decimal_number : List ℕ → Option ℕ
+decimal_number text =
     if nat_le 1 (length text) && nat_le (length text) 20 then option_and_then (at_most 18446744073709551615) (decimal_from 0 text) else None
 
 abbrev pub is_number : List ℕ → Bool
-is_number text = is_some (number_of text)
+is_number text = is_some (decimal_number text)
 
 -- ---- foci
 
@@ -80,4 +80,4 @@ abbrev pub word_at : ℕ → List ℕ → List ℕ
 word_at place line = unwrap_or (slice_get (words line) place) []
 
 abbrev pub number_at : ℕ → List ℕ → ℕ
-number_at place line = unwrap_or (number_of (word_at place line)) 0
+number_at place line = unwrap_or (decimal_number (word_at place line)) 0

@@ -5,7 +5,7 @@ ghost use Rattle.std.specs.Option.{option_map};
 ghost use Rattle.pn_text.specs.Bytes.{begins_with};
 ghost use Rattle.pn_text.specs.Lines.{is_lf};
 ghost use Rattle.advice.specs.Advice.{HasTicks};
-ghost use Rattle.advice.specs.Lines.{after, due_if, first_line, is_false, is_node, is_search, is_shown, is_true, is_untold, may_end, to_lf, to_lf_at, told, told_in, verdict_of};
+ghost use Rattle.advice.specs.Lines.{due_after, due_if, first_line, is_false, is_node, is_search, is_shown, is_true, is_untold, may_end, to_lf, to_lf_at, verdict_of_line, told_in, verdict_of};
 
 use crate::verdict::Verdict;
 use crate::words::{has_form, number_at, says, word_at};
@@ -92,7 +92,7 @@ fn is_node(line: &[u8]) -> bool
 
 /// The verdict in the line of a node that has one.
 fn told(alloc: Global, holds: bool, line: &[u8]) -> Result<Verdict, NoMemory>
-    ensures { IfOk result (λ verdict. verdict ≡ told holds line.now) }
+    ensures { IfOk result (λ verdict. verdict ≡ verdict_of_line holds line.now) }
 {
     Ok(Verdict {
         hypothesis: Text::from_vec(Vec::from_slice(alloc, word_at(6, line))?),
@@ -166,7 +166,7 @@ impl Due {
 
     /// Returns what is due after a line, or None where the line doesn't have the form that is due.
     pub fn after(self, line: &[u8]) -> Option<Due>
-        ensures { result ≡ after self line.now }
+        ensures { result ≡ due_after self line.now }
     {
         match self {
             Due::Title => Due::Counts.only_if(says(line, b"paradyn report 1")),

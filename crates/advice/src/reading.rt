@@ -4,7 +4,7 @@ ghost use Rattle.std.specs.Prelude.{◌≡◌, ◌++◌, IfOk, OnOk};
 ghost use Rattle.std.specs.List.{All};
 ghost use Rattle.std.specs.Option.{option_to_list};
 ghost use Rattle.advice.specs.Advice.{HasTicks};
-ghost use Rattle.advice.specs.Reading.{verdicts_of, Tells};
+ghost use Rattle.advice.specs.Reading.{verdicts_of, ReadsAs};
 
 use crate::due::Due;
 use crate::fault::{ReportError, ReportFault};
@@ -29,7 +29,7 @@ fn add_told(verdicts: &mut Vec<Verdict>, told: Option<Verdict>) -> Result<(), No
 /// Out of memory, or a fault at the first byte of the first line that doesn't have the form that is due, or at the end
 /// where a line is missing.
 pub fn read_verdicts(alloc: Global, report: &[u8]) -> Result<Vec<Verdict>, ReportError>
-    ensures told { Tells result (verdicts_of report.now) }
+    ensures told { ReadsAs result (verdicts_of report.now) }
     ensures ticks { IfOk result (λ verdicts. All HasTicks verdicts.items) }
 {
     let mut verdicts = Vec::new(alloc);

@@ -5,7 +5,7 @@ ghost use Rattle.std.specs.List.{list_all};
 ghost use Rattle.pn_text.specs.Bytes.{begins_name, is_name_byte};
 ghost use Rattle.pn_text.specs.Numbers.{decimal_from, is_digit};
 ghost use Rattle.pn_text.specs.Words.{is_name};
-ghost use Rattle.advice.specs.Words.{are_names, has_form, is_as, is_branch, is_focus, number_at, number_of, word_at};
+ghost use Rattle.advice.specs.Words.{are_names, has_form, is_as, is_branch, is_focus, number_at, decimal_number, word_at};
 
 use crate::pieces::Pieces;
 use pn_types::is_good_name;
@@ -43,7 +43,7 @@ fn decimal(digits: &[u8]) -> Option<u128>
 
 /// The number that a word spells, with 1 to 20 digits, if it is below 2^64.
 fn number(word: &[u8]) -> Option<u64>
-    ensures { result ≡ number_of word.now }
+    ensures { result ≡ decimal_number word.now }
 {
     if word.is_empty() || word.len() > MOST_DIGITS {
         return None;

@@ -20,7 +20,7 @@ use Rattle.tramp_spec.specs.Harts.{Hart}
 use Rattle.tramp_spec.specs.Marks.{own}
 use Rattle.code_store.proofs.Beginnings.{words_end}
 use Rattle.machine.specs.Cores.{In, Core, first_hart, start_core}
-use Rattle.machine.specs.Effects.{after, armed}
+use Rattle.machine.specs.Effects.{after_event, armed_hart}
 use Rattle.machine.specs.Events.{IsLinked, IsQuiet, MayArm, AreOutside}
 use Rattle.machine.specs.Laws.{IsProgram}
 use Rattle.machine.specs.Reached.{IsReached}
@@ -77,9 +77,9 @@ first_quiet image n budget = outside_by (harts_from n 0 image n)
 
 -- ---- arming
 
-pub armed_quiet : (c : Core) (k : Counter) → IsQuiet c → IsQuiet (after c (arming k))
+pub armed_quiet : (c : Core) (k : Counter) → IsQuiet c → IsQuiet (after_event c (arming k))
 armed_quiet c k quiet h x e =
-    let m = get_map (armed c (placed_of k)) c.harts h x e in
+    let m = get_map (armed_hart c (placed_of k)) c.harts h x e in
     ap (λ (z : Hart). z.inside) m.2 ∙ quiet h m.0 m.1
 
 may_arm : (c : Core) (k : Counter) → IsQuiet c → Has k c → MayArm c (placed_of k)
@@ -101,9 +101,9 @@ pub record Arms (ks : List Counter) (c : Core) : Type 0 where
 pub all_armed : (ks : List Counter) (c : Core) → IsQuiet c → ((j : Counter) → In j ks → Has j c) → Arms ks c
 all_armed [] c quiet has = record { legal = tt; quiet = quiet; len = refl; harts = c.harts; is = refl; has = λ j h. h }
 all_armed (k ∷ ks) c quiet has =
-    let still : (j : Counter) → Has j c → Has j (after c (arming k)) = λ j h. record { mini = h.mini; words = h.words; entered = h.entered } in
-    let rest = all_armed ks (after c (arming k)) (armed_quiet c k quiet) (λ j h. still j (has j (inr h))) in
-    record { legal = (may_arm c k quiet (has k (inl refl)), rest.legal); quiet = rest.quiet; len = rest.len ∙ length-map c.harts (armed c (placed_of k)); harts = rest.harts; is = rest.is; has = λ j h. rest.has j (still j h) }
+    let still : (j : Counter) → Has j c → Has j (after_event c (arming k)) = λ j h. record { mini = h.mini; words = h.words; entered = h.entered } in
+    let rest = all_armed ks (after_event c (arming k)) (armed_quiet c k quiet) (λ j h. still j (has j (inr h))) in
+    record { legal = (may_arm c k quiet (has k (inl refl)), rest.legal); quiet = rest.quiet; len = rest.len ∙ length-map c.harts (armed_hart c (placed_of k)); harts = rest.harts; is = rest.is; has = λ j h. rest.has j (still j h) }
 
 -- ---- the counters of a program
 

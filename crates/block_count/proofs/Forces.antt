@@ -16,7 +16,7 @@ use Rattle.tramp_spec.specs.Statements.{body_of}
 use Rattle.tramp_spec.specs.declared.mark.MarkedWord.{MarkedWord}
 use Rattle.frame_walk.specs.Walks.{walk_now}
 use Rattle.machine.specs.Cores.{In, Row, Core}
-use Rattle.machine.specs.Effects.{after, armed}
+use Rattle.machine.specs.Effects.{after_event, armed_hart}
 use Rattle.machine.specs.Events.{Event, Turn}
 use Rattle.machine.specs.Instruments.{AllLet, Carries, IsSpared, Spares, body_in, words_at}
 use Rattle.machine.specs.Leaving.{is_out}
@@ -116,7 +116,7 @@ placing_owns (k ∷ ks) c = owns-append (placing k) (flat_map placing ks) c ∙ 
 
 pub arming_owns : (ks : List Counter) (c : Core) → owns (map arming ks) c ≡ []
 arming_owns [] c = refl
-arming_owns (k ∷ ks) c = arming_owns ks (after c (arming k))
+arming_owns (k ∷ ks) c = arming_owns ks (after_event c (arming k))
 
 -- ---- the plan
 
@@ -156,14 +156,14 @@ set_reads_0 [] s = refl
 set_reads_0 (v ∷ bank) zero = refl
 set_reads_0 (v ∷ bank) (suc s) = set_reads_0 bank s
 
-armed_reads_0 : (c : Core) (k : Counter) (o : Option Hart) → reading_if (placed_of k) (elim o [ None ↦ None | Some x ↦ Some (armed c (placed_of k) x) ]) ≡ 0
+armed_reads_0 : (c : Core) (k : Counter) (o : Option Hart) → reading_if (placed_of k) (elim o [ None ↦ None | Some x ↦ Some (armed_hart c (placed_of k) x) ]) ≡ 0
 armed_reads_0 c k None = refl
 armed_reads_0 c k (Some x) =
     ap (λ vs. slice_index (set_places (places_of (placed_of k)) vs x.ticks x.bank) k.slot) (opens_at_0 (walk_now c.prog x)) ∙ set_reads_0 x.bank k.slot
 
 -- once it is armed each hart reads 0
-pub reads_0 : (c : Core) (k : Counter) (harts : List ℕ) → readings (placed_of k) harts (after c (arming k)) ≡ 0
+pub reads_0 : (c : Core) (k : Counter) (harts : List ℕ) → readings (placed_of k) harts (after_event c (arming k)) ≡ 0
 reads_0 c k [] = refl
 reads_0 c k (h ∷ harts) =
-    ap (λ n. (n + readings (placed_of k) harts (after c (arming k))) % 2 ^ 64) (ap (reading_if (placed_of k)) (got (armed c (placed_of k)) c.harts h) ∙ armed_reads_0 c k (slice_get c.harts h))
+    ap (λ n. (n + readings (placed_of k) harts (after_event c (arming k))) % 2 ^ 64) (ap (reading_if (placed_of k)) (got (armed_hart c (placed_of k)) c.harts h) ∙ armed_reads_0 c k (slice_get c.harts h))
     ∙ ap (λ n. (0 + n) % 2 ^ 64) (reads_0 c k harts)

@@ -10,7 +10,7 @@ use Rattle.tramp_spec.specs.Marks.{own, tool}
 use Rattle.tramp_spec.specs.Statements.{body_of}
 use Rattle.tramp_spec.proofs.Hops.{jump_hops}
 use Rattle.machine.specs.Cores.{Row, Written, Core}
-use Rattle.machine.specs.Effects.{written}
+use Rattle.machine.specs.Effects.{with_block}
 use Rattle.machine.specs.Events.{LinkPoint, Apart, MayWrite, MayLinkMini, MayLinkPoint, May, next_of}
 use Rattle.machine.specs.Replays.{Legal}
 use Rattle.machine.proofs.Lists.{get_append, get_other, in_snoc, put_words_other, put_words_stand, snoc_new, stands_at}
@@ -41,7 +41,7 @@ module _ (p at : ℕ) (c : Core) (k : Counter) (r : Ready p at c) (f : Fits p at
         apart = λ x h. let l = r.ends x h in inl (omega arith);
       }
 
-  writes_mini : MayWrite (written (base_of k) c) (mini_of k)
+  writes_mini : MayWrite (with_block (base_of k) c) (mini_of k)
   writes_mini =
       let four = body_len k.slot in
       let five = mini_len k in

@@ -10,10 +10,10 @@ use Rattle.rv_word.specs.Registers.{arguments_of}
 use Rattle.rv_exec.specs.Run.{Position, position_of, trace_from}
 use Rattle.rv_exec.proofs.Runs.{length-plain}
 use Rattle.pn_types.specs.declared.plan.Site.{Site}
-use Rattle.frame_walk.specs.Openings.{entered, of_calls, of_caller, of_pc, opening}
+use Rattle.frame_walk.specs.Openings.{entry_statements, of_calls, of_caller, of_pc, opening}
 use Rattle.frame_walk.specs.Walks.{Walk, walk}
 use Rattle.tramp_spec.specs.Values.{values_after}
-use Rattle.machine.specs.Measures.{Level, level, level_at, measure, measure_of, measured, opened, passed_by, site_values, difference}
+use Rattle.machine.specs.Measures.{Level, level, level_at, measure, measure_of, measured, opening_level, passed_by, site_values, difference}
 use Rattle.block_count.specs.Counted.{positions_at}
 use Rattle.block_count.specs.Counters.{one_more, passes, plan_at}
 
@@ -40,7 +40,7 @@ caller_none : (pc : ℕ) (a : Option ℕ) → of_caller [] pc a ≡ []
 caller_none pc None = refl
 caller_none pc (Some a) = refl
 
-entered_none : (w : Option Walk) → entered [] w ≡ []
+entered_none : (w : Option Walk) → entry_statements [] w ≡ []
 entered_none None = refl
 entered_none (Some w) = ap (λ ss. ss ++ (of_caller [] w.pc w.caller ++ of_pc [] w.pc)) (calls_none w.calls) ∙ ap (λ ss. ss ++ of_pc [] w.pc) (caller_none w.pc w.caller)
 
@@ -85,7 +85,7 @@ level_is t a h n (g ∷ turns) s v e l = by (g == h) (λ m w i k. level_is t a h
 
 hart_measured : (t : Words) (a h : ℕ) (turns : List ℕ) (s : Plain) → measure_of t (plan_at a) 0 0 (length turns) h turns s ≡ of_hart t a h turns s % 2 ^ 64
 hart_measured t a h turns s =
-    let first = opened (plan_at a) s h in
+    let first = opening_level (plan_at a) s h in
     let zero_first : first.values ≡ 0 ∷ [] = opens_at_0 (walk s h) in
     let later = level_is t a h 0 turns s first zero_first (omega arith) in
     let more = of_hart t a h turns s in

@@ -13,7 +13,7 @@ use Rattle.tramp_spec.specs.Jumps.{jump_word}
 use Rattle.tramp_spec.specs.Marks.{own, enter, tool}
 use Rattle.tramp_spec.specs.MovedWords.{moved_of}
 use Rattle.machine.specs.Cores.{In, Row, Status, Written, Live, Core, is_current}
-use Rattle.machine.specs.Effects.{after, at_set, row_of, with_status, written, mini_linked, point_linked}
+use Rattle.machine.specs.Effects.{after_event, at_set, row_of, with_status, with_block, mini_linked, point_linked}
 use Rattle.machine.specs.Events.{LinkMini, LinkPoint, current_base}
 use Rattle.machine.specs.Replays.{replay}
 use Rattle.block_count.specs.Counters.{Counter, base_of, end_of, mini_at, mini_of}
@@ -60,7 +60,7 @@ code_written k code = put_words (mini_at k) (mini_of k).words (put_words k.at (b
 
 -- both are written
 abbrev pub both : Counter → Core → Core
-both k c = written (mini_of k) (written (base_of k) c)
+both k c = with_block (mini_of k) (with_block (base_of k) c)
 
 abbrev pub code_chained : Counter → Code → Code
 code_chained k code = insert (code_written k code) (k.at + 4) (tool (jump_word (k.at + 4) (mini_at k)))
@@ -131,7 +131,7 @@ module _ (p at : ℕ) (c : Core) (k : Counter) (r : Ready p at c) (f : Fits p at
       ∙ ap (λ b. (c.rows ++ record (base_first k) { status = cond b Live Written } ∷ []) ++ with_status (at_set (mini_at k) Live) (mini_first k) ∷ []) base_apart
       ∙ ap (λ b. (c.rows ++ base_first k ∷ []) ++ record (mini_first k) { status = cond b Live Written } ∷ []) (eq-eqb (mini_at k) (mini_at k) refl)
 
-  pub chains : after (both k c) (LinkMini k.point (mini_at k)) ≡ chained k c
+  pub chains : after_event (both k c) (LinkMini k.point (mini_at k)) ≡ chained k c
   chains =
       ap (λ o. mini_linked o (mini_at k) (both k c)) (current Written (mini_first k) refl)
       ∙ ap (λ rows. record (chained k c) { rows = rows }) rows_chained
@@ -143,7 +143,7 @@ module _ (p at : ℕ) (c : Core) (k : Counter) (r : Ready p at c) (f : Fits p at
       ∙ ap (λ b. (c.rows ++ record (base_first k) { status = cond b Live Written } ∷ []) ++ with_status (at_set k.at Live) (mini_row k) ∷ []) (eq-eqb k.at k.at refl)
       ∙ ap (λ x. (c.rows ++ base_row k ∷ []) ++ x ∷ []) (link_live k.at (mini_at k == k.at) (mini_row k) refl)
 
-  pub enters : after (chained k c) (LinkPoint k.point) ≡ placed k c
+  pub enters : after_event (chained k c) (LinkPoint k.point) ≡ placed k c
   enters =
       ap (λ o. point_linked o k.point (chained k c)) (current Written (mini_row k) refl)
       ∙ ap (λ rows. record (placed k c) { rows = rows }) rows_placed
@@ -151,4 +151,4 @@ module _ (p at : ℕ) (c : Core) (k : Counter) (r : Ready p at c) (f : Fits p at
   -- a counter was placed
   pub places : replay (placing k) c ≡ placed k c
   unfolding placing
-  places = ap (λ d. after d (LinkPoint k.point)) chains ∙ enters
+  places = ap (λ d. after_event d (LinkPoint k.point)) chains ∙ enters

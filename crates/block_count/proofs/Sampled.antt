@@ -18,7 +18,7 @@ use Rattle.tramp_spec.specs.Banks.{bank_len, first_slot}
 use Rattle.tramp_spec.specs.Codes.{tool_at}
 use Rattle.tramp_spec.specs.Harts.{Hart}
 use Rattle.machine.specs.Cores.{In, Core, start_core}
-use Rattle.machine.specs.Effects.{after}
+use Rattle.machine.specs.Effects.{after_event}
 use Rattle.machine.specs.Events.{Event, IsQuiet, AreOutside}
 use Rattle.machine.specs.Instruments.{Carries, IsSpared, reading}
 use Rattle.machine.specs.Laws.{IsProgram}
@@ -126,8 +126,8 @@ module _ (image : Image) (procs : List Proc) (budget : ℕ) (p : Pace) (program 
   stands : Stood ks there.p there.at unarmed
   stands = subst (Stood ks there.p there.at) (sym armed_front.is) (stood_with ks there.p there.at middle armed_front.harts there.stood)
 
-  first_is : replay (before ++ arming k ∷ []) first ≡ after unarmed (arming k)
-  first_is = replay-append before (arming k ∷ []) first ∙ ap (λ d. after d (arming k)) before_is
+  first_is : replay (before ++ arming k ∷ []) first ≡ after_event unarmed (arming k)
+  first_is = replay-append before (arming k ∷ []) first ∙ ap (λ d. after_event d (arming k)) before_is
 
   sampled : IsSampled (placed_of k) (plan_at k.point) es first
   sampled =

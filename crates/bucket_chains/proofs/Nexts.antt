@@ -5,7 +5,7 @@ use Rattle.std.proofs.lemmas.List.{drop-set-lt, get_or_default, length-map, map-
 use Rattle.std.proofs.lemmas.Option.{none-some}
 use Rattle.std.specs.Option.{option_map}
 use Rattle.bucket_chains.specs.Entries.{bucket_at, bucket_of, IsFirst}
-use Rattle.bucket_chains.specs.Left.{left, buckets_of}
+use Rattle.bucket_chains.specs.Left.{present_entries, buckets_of}
 use Rattle.bucket_chains.proofs.Places.{kept, was, within}
 use Rattle.bucket_chains.proofs.Walks.{at_entry, finds_here, finds_none, finds_on, IsChange, IsWalked, begun, passes, whole}
 
@@ -49,7 +49,7 @@ read_entry es place o lt is = get_or_default es place None o lt ∙ sym is
 
 -- ---- an entry more
 
-pub left_push : {A : Type 0} (es : List (Option A)) (x : A) → left (es ++ Some x ∷ []) ≡ left es ++ x ∷ []
+pub left_push : {A : Type 0} (es : List (Option A)) (x : A) → present_entries (es ++ Some x ∷ []) ≡ present_entries es ++ x ∷ []
 left_push [] x = refl
 left_push (None ∷ es) x = left_push es x
 left_push (Some y ∷ es) x = ap (λ l. y ∷ l) (left_push es x)
@@ -77,10 +77,10 @@ module _ {A : Type 0} (key : A → ℕ) where
 
   pub record Searches (b : ℕ) (p : A → Bool) (es : List (Option A)) (next : Option ℕ) : Type 0 where
     pub place : IsNext b (buckets_of key es) next
-    pub rest : find p (left (from_next next es)) ≡ find p (left es)
+    pub rest : find p (present_entries (from_next next es)) ≡ find p (present_entries es)
 
   module _ (b : ℕ) (p : A → Bool) (own : (x : A) → p x ≡ true → bucket_of (key x) ≡ b) (es : List (Option A)) where
-    found_from : (from : ℕ) (r : Option ℕ) → IsFirst b from (buckets_of key es) r → find p (left (from_next r es)) ≡ find p (left (drop from es))
+    found_from : (from : ℕ) (r : Option ℕ) → IsFirst b from (buckets_of key es) r → find p (present_entries (from_next r es)) ≡ find p (present_entries (drop from es))
     found_from from None h = sym (finds_none key b p own es from h)
     found_from from (Some place) h = sym (finds_on key b p own es from place h.0 h.2)
 
@@ -91,11 +91,11 @@ module _ {A : Type 0} (key : A → ℕ) where
     search_on place x r s at fails h =
         record {
           place = is_next b (place + 1) (buckets_of key es) r h;
-          rest = found_from (place + 1) r h ∙ sym (finds_here key b p own es place x at ∙ ap (λ c. cond c (Some x) (find p (left (drop (place + 1) es)))) fails) ∙ s.rest;
+          rest = found_from (place + 1) r h ∙ sym (finds_here key b p own es place x at ∙ ap (λ c. cond c (Some x) (find p (present_entries (drop (place + 1) es)))) fails) ∙ s.rest;
         }
 
-    pub search_found : (place : ℕ) (x : A) → Searches b p es (Some place) → get_or es place None ≡ Some x → p x ≡ true → Some x ≡ find p (left es)
-    search_found place x s at passes = sym (ap (λ c. cond c (Some x) (find p (left (drop (place + 1) es)))) passes) ∙ sym (finds_here key b p own es place x at) ∙ s.rest
+    pub search_found : (place : ℕ) (x : A) → Searches b p es (Some place) → get_or es place None ≡ Some x → p x ≡ true → Some x ≡ find p (present_entries es)
+    search_found place x s at passes = sym (ap (λ c. cond c (Some x) (find p (present_entries (drop (place + 1) es)))) passes) ∙ sym (finds_here key b p own es place x at) ∙ s.rest
 
   -- ---- a change
 

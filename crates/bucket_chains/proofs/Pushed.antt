@@ -4,7 +4,7 @@ use Rattle.std.proofs.lemmas.List.{get_or_append_left, get_or-set_same, get_or-s
 use Rattle.std.proofs.lemmas.Bool.{cases_lt}
 use Rattle.std.proofs.lemmas.Option.{none-some, same_Some}
 use Rattle.bucket_chains.specs.Entries.{bucket_at, IsFirst, HasNone, HasNoMore}
-use Rattle.bucket_chains.specs.Chained.{IsBehind, IsChained, IsLast}
+use Rattle.bucket_chains.specs.Chained.{IsNextBelow, IsChained, IsLast}
 use Rattle.bucket_chains.specs.declared.chains.TheConstants.{BUCKETS}
 use Rattle.bucket_chains.proofs.Places.{within, still, behind, came, same_or_other}
 
@@ -60,11 +60,11 @@ module _ (es : List (Option ℕ)) (b : ℕ) where
   last_kept c (Some place) other h = (still es (Some b) place c h.0, none_more c (place + 1) other h.1)
 
   -- the one before each entry
-  behind_kept : (c place : ℕ) (r : Option ℕ) → place ≤ length es → IsBehind c r place es → IsBehind c r place more
+  behind_kept : (c place : ℕ) (r : Option ℕ) → place ≤ length es → IsNextBelow c r place es → IsNextBelow c r place more
   behind_kept c place None le h = none_between c 0 place le h
   behind_kept c place (Some q) le h = (h.0, still es (Some b) q c h.1, none_between c (q + 1) place le h.2)
 
-  behind_last : (r : Option ℕ) → IsLast b es r → IsBehind b r (length es) more
+  behind_last : (r : Option ℕ) → IsLast b es r → IsNextBelow b r (length es) more
   behind_last None h = none_between b 0 (length es) (omega arith) (λ i ge lt at. h i ge at)
   behind_last (Some q) h = (within es q b h.0, still es (Some b) q b h.0, none_between b (q + 1) (length es) (omega arith) (λ i ge lt at. h.1 i ge at))
 
@@ -89,19 +89,19 @@ module _ (es : List (Option ℕ)) (b : ℕ) where
     abbrev ps_more : List (Option ℕ)
     ps_more = ps ++ get_or ls b None ∷ []
 
-    befores : (i c : ℕ) → bucket_at more i ≡ Some c → IsBehind c (get_or ps_more i None) i more
+    befores : (i c : ℕ) → bucket_at more i ≡ Some c → IsNextBelow c (get_or ps_more i None) i more
     befores i c at = by (came es (Some b) i c at)
       where
-        by : (bucket_at es i ≡ Some c) ⊎ ((i ≡ length es) × (Some b ≡ Some c)) → IsBehind c (get_or ps_more i None) i more
+        by : (bucket_at es i ≡ Some c) ⊎ ((i ≡ length es) × (Some b ≡ Some c)) → IsNextBelow c (get_or ps_more i None) i more
         by (inl was) =
             let lt : i < length es = within es i c was in
-            subst (λ r. IsBehind c r i more) (sym (get_or_append_left ps (get_or ls b None ∷ []) None i (omega (arith, lt, chained.previous_places))))
+            subst (λ r. IsNextBelow c r i more) (sym (get_or_append_left ps (get_or ls b None ∷ []) None i (omega (arith, lt, chained.previous_places))))
             (behind_kept c i (get_or ps i None) (omega (arith, lt)) (chained.before i c was))
         by (inr new) =
             let at_end : i ≡ length ps = new.0 ∙ sym chained.previous_places in
-            subst (λ k. IsBehind k (get_or ps_more i None) i more) (same_Some b c new.1)
-            (subst (λ r. IsBehind b r i more) (sym (ap (λ k. get_or ps_more k None) at_end ∙ behind ps (get_or ls b None)))
-            (subst (λ k. IsBehind b (get_or ls b None) k more) (sym new.0) (behind_last (get_or ls b None) (chained.last b lt))))
+            subst (λ k. IsNextBelow k (get_or ps_more i None) i more) (same_Some b c new.1)
+            (subst (λ r. IsNextBelow b r i more) (sym (ap (λ k. get_or ps_more k None) at_end ∙ behind ps (get_or ls b None)))
+            (subst (λ k. IsNextBelow b (get_or ls b None) k more) (sym new.0) (behind_last (get_or ls b None) (chained.last b lt))))
 
     belows : (i c : ℕ) → bucket_at more i ≡ Some c → c < BUCKETS
     belows i c at = by (came es (Some b) i c at)
@@ -215,7 +215,7 @@ module _ (es : List (Option ℕ)) where
   first_same c from None h = λ i ge at. h i ge (was_there i c at)
   first_same c from (Some place) h = (h.0, still es None place c h.1, λ i ge lt at. h.2 i ge lt (was_there i c at))
 
-  behind_same : (c place : ℕ) (r : Option ℕ) → IsBehind c r place es → IsBehind c r place wider
+  behind_same : (c place : ℕ) (r : Option ℕ) → IsNextBelow c r place es → IsNextBelow c r place wider
   behind_same c place None h = λ i ge lt at. h i ge lt (was_there i c at)
   behind_same c place (Some q) h = (h.0, still es None q c h.1, λ i ge lt at. h.2 i ge lt (was_there i c at))
 
@@ -235,7 +235,7 @@ module _ (es : List (Option ℕ)) where
             subst (IsFirst c (i + 1) wider) (sym (get_or_append_left ns (None ∷ []) None i (omega (arith, within es i c (was_there i c at), chained.next_places))))
             (first_same c (i + 1) (get_or ns i None) (chained.next i c (was_there i c at)));
         before = λ i c at.
-            subst (λ r. IsBehind c r i wider) (sym (get_or_append_left ps (None ∷ []) None i (omega (arith, within es i c (was_there i c at), chained.previous_places))))
+            subst (λ r. IsNextBelow c r i wider) (sym (get_or_append_left ps (None ∷ []) None i (omega (arith, within es i c (was_there i c at), chained.previous_places))))
             (behind_same c i (get_or ps i None) (chained.before i c (was_there i c at)));
         first = λ c lt. first_same c 0 (get_or fs c None) (chained.first c lt);
         last = λ c lt. last_same c (get_or ls c None) (chained.last c lt);

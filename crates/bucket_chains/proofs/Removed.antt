@@ -4,7 +4,7 @@ use Rattle.std.proofs.lemmas.Bool.{cases_lt}
 use Rattle.std.proofs.lemmas.List.{get_or-set_same, get_or-set_other, length-set}
 use Rattle.std.proofs.lemmas.Option.{same_Some}
 use Rattle.bucket_chains.specs.Entries.{bucket_at, IsFirst, HasNone, HasNoMore}
-use Rattle.bucket_chains.specs.Chained.{IsBehind, IsChained, IsLast}
+use Rattle.bucket_chains.specs.Chained.{IsNextBelow, IsChained, IsLast}
 use Rattle.bucket_chains.specs.declared.chains.TheConstants.{BUCKETS}
 use Rattle.bucket_chains.proofs.Places.{within, kept, was, same_or_other}
 
@@ -19,7 +19,7 @@ pub record Forward (buckets nexts firsts : List (Option ℕ)) : Type 0 where
 pub record Backward (buckets previous lasts : List (Option ℕ)) : Type 0 where
   pub previous_places : length previous ≡ length buckets
   pub last_places : length lasts ≡ BUCKETS
-  pub before : (i b : ℕ) → bucket_at buckets i ≡ Some b → IsBehind b (get_or previous i None) i buckets
+  pub before : (i b : ℕ) → bucket_at buckets i ≡ Some b → IsNextBelow b (get_or previous i None) i buckets
   pub last : (b : ℕ) → b < BUCKETS → IsLast b buckets (get_or lasts b None)
 
 pub both : {buckets nexts previous firsts lasts : List (Option ℕ)} → Forward buckets nexts firsts → Backward buckets previous lasts → IsChained buckets nexts previous firsts lasts
@@ -126,7 +126,7 @@ module _ (es : List (Option ℕ)) (b place : ℕ) (there : bucket_at es place �
                 (first_left c 0 (get_or fs c None) (chained.first c below) (λ h e. other e))
 
     -- one entry leads to none, and comes after another
-    pub later_leaves : (q : ℕ) → IsBehind b (Some q) place es → Forward less (set ns q (get_or ns place None)) fs
+    pub later_leaves : (q : ℕ) → IsNextBelow b (Some q) place es → Forward less (set ns q (get_or ns place None)) fs
     later_leaves q behind =
         record {
           next_places = length-set ns q (get_or ns place None) ∙ chained.next_places ∙ sym (length-set es place None);
@@ -158,10 +158,10 @@ module _ (es : List (Option ℕ)) (b place : ℕ) (there : bucket_at es place �
                     side (inr le) = behind.2 i (omega (arith, le, apart)) (omega (arith, h.0)) (before ∙ ap Some e)
 
     -- the one before the entry
-    behind : IsBehind b (get_or ps place None) place es
+    behind : IsNextBelow b (get_or ps place None) place es
     behind = chained.before place b there
 
-    behind_stays : (c i : ℕ) (r : Option ℕ) → (r ≡ Some place → ⊥) → IsBehind c r i es → IsBehind c r i less
+    behind_stays : (c i : ℕ) (r : Option ℕ) → (r ≡ Some place → ⊥) → IsNextBelow c r i es → IsNextBelow c r i less
     behind_stays c i None apart h = none_left c 0 i h
     behind_stays c i (Some q) apart h = (h.0, kept es place q c (λ e. apart (ap Some e)) h.1, none_left c (q + 1) i h.2)
 
@@ -175,17 +175,17 @@ module _ (es : List (Option ℕ)) (b place : ℕ) (there : bucket_at es place �
           last = last;
         }
       where
-        before : (i c : ℕ) → bucket_at less i ≡ Some c → IsBehind c (get_or ps i None) i less
+        before : (i c : ℕ) → bucket_at less i ≡ Some c → IsNextBelow c (get_or ps i None) i less
         before i c at =
             let at_first : bucket_at es i ≡ Some c = (was es place i c at).0 in
             behind_stays c i (get_or ps i None) (apart at_first) (chained.before i c at_first)
           where
             apart : bucket_at es i ≡ Some c → get_or ps i None ≡ Some place → ⊥
             apart here e =
-                let h : IsBehind c (Some place) i es = subst (λ r. IsBehind c r i es) e (chained.before i c here) in
+                let h : IsNextBelow c (Some place) i es = subst (λ r. IsNextBelow c r i es) e (chained.before i c here) in
                 none i (omega (arith, h.0)) (here ∙ ap Some (same_bucket c h.1))
 
-        own : (r : Option ℕ) → IsBehind b r place es → IsLast b less r
+        own : (r : Option ℕ) → IsNextBelow b r place es → IsLast b less r
         own None h = first_passes 0 None (omega arith, there, h) none
         own (Some q) h = (kept es place q b (λ e. absurd (omega (arith, e, h.0))) h.1, first_passes (q + 1) None (omega (arith, h.0), there, h.2) none)
 
@@ -211,7 +211,7 @@ module _ (es : List (Option ℕ)) (b place : ℕ) (there : bucket_at es place �
         }
       where
         -- the other comes after the one before
-        passes : (r : Option ℕ) → IsBehind b r place es → IsBehind b r j less
+        passes : (r : Option ℕ) → IsNextBelow b r place es → IsNextBelow b r j less
         passes None h = none
           where
             none : HasNone b 0 j less
@@ -229,25 +229,25 @@ module _ (es : List (Option ℕ)) (b place : ℕ) (there : bucket_at es place �
                 by w (inl small) = h.2 i ge small w.0
                 by w (inr le) = another.2 i (omega (arith, le, w.1)) below w.0
 
-        before : (i c : ℕ) → bucket_at less i ≡ Some c → IsBehind c (get_or (set ps j (get_or ps place None)) i None) i less
+        before : (i c : ℕ) → bucket_at less i ≡ Some c → IsNextBelow c (get_or (set ps j (get_or ps place None)) i None) i less
         before i c at = by (was es place i c at) (same_or_other i j)
           where
-            by : (bucket_at es i ≡ Some c) × (i ≡ place → ⊥) → (i ≡ j) ⊎ (i ≡ j → ⊥) → IsBehind c (get_or (set ps j (get_or ps place None)) i None) i less
+            by : (bucket_at es i ≡ Some c) × (i ≡ place → ⊥) → (i ≡ j) ⊎ (i ≡ j → ⊥) → IsNextBelow c (get_or (set ps j (get_or ps place None)) i None) i less
             by w (inl e) =
                 let same : c ≡ b = same_Some c b (sym w.0 ∙ ap (bucket_at es) e ∙ another.1) in
-                subst (λ k. IsBehind k (get_or (set ps j (get_or ps place None)) i None) i less) (sym same)
-                (subst (λ k. IsBehind b (get_or (set ps j (get_or ps place None)) k None) k less) (sym e)
-                (subst (λ r. IsBehind b r j less) (sym (get_or-set_same ps j (get_or ps place None) None (omega (arith, within es j b another.1, chained.previous_places))))
+                subst (λ k. IsNextBelow k (get_or (set ps j (get_or ps place None)) i None) i less) (sym same)
+                (subst (λ k. IsNextBelow b (get_or (set ps j (get_or ps place None)) k None) k less) (sym e)
+                (subst (λ r. IsNextBelow b r j less) (sym (get_or-set_same ps j (get_or ps place None) None (omega (arith, within es j b another.1, chained.previous_places))))
                 (passes (get_or ps place None) behind)))
             by w (inr other) =
-                subst (λ r. IsBehind c r i less) (sym (get_or-set_other ps j i (get_or ps place None) None other))
+                subst (λ r. IsNextBelow c r i less) (sym (get_or-set_other ps j i (get_or ps place None) None other))
                 (behind_stays c i (get_or ps i None) apart (chained.before i c w.0))
               where
                 apart : get_or ps i None ≡ Some place → ⊥
                 apart e = side (cases_lt i j)
                   where
-                    h : IsBehind c (Some place) i es
-                    h = subst (λ r. IsBehind c r i es) e (chained.before i c w.0)
+                    h : IsNextBelow c (Some place) i es
+                    h = subst (λ r. IsNextBelow c r i es) e (chained.before i c w.0)
 
                     same : c ≡ b
                     same = same_bucket c h.1

@@ -1,7 +1,7 @@
 -- What a removal reads of the entry at a place, and what that says.
 use Rattle.std.proofs.Common.{◌≡◌, ℕ, ◌+◌, ◌<◌, Option, Some, None, length, get_or, ◌∙◌, subst, arith}
 use Rattle.bucket_chains.specs.Entries.{bucket_at, IsFirst}
-use Rattle.bucket_chains.specs.Chained.{IsBehind, IsChained}
+use Rattle.bucket_chains.specs.Chained.{IsNextBelow, IsChained}
 use Rattle.bucket_chains.specs.declared.chains.Chains.TheInside.{Inside}
 use Rattle.bucket_chains.proofs.Nexts.{read_entry}
 
@@ -16,7 +16,7 @@ pub record RemovedEntry (s : Inside) (b place : ℕ) (next before : Option ℕ) 
   pub next_is : get_or s.next.items place None ≡ next
   pub before_is : get_or s.previous.items place None ≡ before
   pub follows : IsFirst b (place + 1) s.buckets.items next
-  pub precedes : IsBehind b before place s.buckets.items
+  pub precedes : IsNextBelow b before place s.buckets.items
 
 pub reads : (s : Inside) (b place : ℕ) (bucket next before : Option ℕ) → AreChained s → place < length s.buckets.items
     → bucket ≡ get_or s.buckets.items place bucket → bucket ≡ Some b → next ≡ get_or s.next.items place next
@@ -31,5 +31,5 @@ reads s b place bucket next before chained within at is after ahead =
       next_is = next_is;
       before_is = before_is;
       follows = subst (IsFirst b (place + 1) s.buckets.items) next_is (chained.next place b there);
-      precedes = subst (λ r. IsBehind b r place s.buckets.items) before_is (chained.before place b there);
+      precedes = subst (λ r. IsNextBelow b r place s.buckets.items) before_is (chained.before place b there);
     }

@@ -5,12 +5,12 @@ use Rattle.std.proofs.lemmas.Bool.{cases_lt}
 use Rattle.std.proofs.lemmas.List.{same_lists, get_or_default, get_or-set_same, get_or-set_other, length-set, length-map, drop_all}
 use Rattle.std.specs.Option.{option_map}
 use Rattle.bucket_chains.specs.Entries.{bucket_at, bucket_of, HasNone, HasNoMore}
-use Rattle.bucket_chains.specs.Left.{left, buckets_of}
+use Rattle.bucket_chains.specs.Left.{present_entries, buckets_of}
 use Rattle.std.proofs.lemmas.Option.{none-some}
 use Rattle.bucket_chains.proofs.Places.{same_or_other}
 
 -- one change of each entry left
-pub left_map : {A : Type 0} (f : A → A) (es : List (Option A)) → left (map (option_map f) es) ≡ map f (left es)
+pub left_map : {A : Type 0} (f : A → A) (es : List (Option A)) → present_entries (map (option_map f) es) ≡ map f (present_entries es)
 left_map f [] = refl
 left_map f (None ∷ es) = left_map f es
 left_map f (Some x ∷ es) = ap (λ l. f x ∷ l) (left_map f es)
@@ -20,12 +20,12 @@ abbrev pub kept_if : {A : Type 0} → (A → Bool) → Option A → Option A
 kept_if p None = None
 kept_if p (Some x) = cond (p x) (Some x) None
 
-pub left_filter : {A : Type 0} (p : A → Bool) (es : List (Option A)) → left (map (kept_if p) es) ≡ filter p (left es)
+pub left_filter : {A : Type 0} (p : A → Bool) (es : List (Option A)) → present_entries (map (kept_if p) es) ≡ filter p (present_entries es)
 left_filter p [] = refl
 left_filter p (None ∷ es) = left_filter p es
 left_filter p (Some x ∷ es) = by (p x) (left_filter p es)
   where
-    by : (b : Bool) → left (map (kept_if p) es) ≡ filter p (left es) → left (cond b (Some x) None ∷ map (kept_if p) es) ≡ cond b (x ∷ filter p (left es)) (filter p (left es))
+    by : (b : Bool) → present_entries (map (kept_if p) es) ≡ filter p (present_entries es) → present_entries (cond b (Some x) None ∷ map (kept_if p) es) ≡ cond b (x ∷ filter p (present_entries es)) (filter p (present_entries es))
     by true rest = ap (λ l. x ∷ l) rest
     by false rest = rest
 
@@ -128,12 +128,12 @@ module _ {A : Type 0} (key : A → ℕ) where
         by true e = absurd (other (own x e))
         by false e = e
 
-    passed_one : (o : Option A) (es : List (Option A)) → (option_map (λ x. bucket_of (key x)) o ≡ Some b → ⊥) → find p (left (o ∷ es)) ≡ find p (left es)
+    passed_one : (o : Option A) (es : List (Option A)) → (option_map (λ x. bucket_of (key x)) o ≡ Some b → ⊥) → find p (present_entries (o ∷ es)) ≡ find p (present_entries es)
     passed_one None es h = refl
-    passed_one (Some x) es h = ap (λ c. cond c (Some x) (find p (left es))) (fails x (λ e. h (ap Some e)))
+    passed_one (Some x) es h = ap (λ c. cond c (Some x) (find p (present_entries es))) (fails x (λ e. h (ap Some e)))
 
     -- entries of other buckets are passed
-    pub finds_on : (es : List (Option A)) (from to : ℕ) → from ≤ to → HasNone b from to (buckets_of key es) → find p (left (drop from es)) ≡ find p (left (drop to es))
+    pub finds_on : (es : List (Option A)) (from to : ℕ) → from ≤ to → HasNone b from to (buckets_of key es) → find p (present_entries (drop from es)) ≡ find p (present_entries (drop to es))
     finds_on es zero zero le none = refl
     finds_on es (suc from) zero le none = absurd (omega (arith, le))
     finds_on [] zero (suc to) le none = refl
@@ -144,14 +144,14 @@ module _ {A : Type 0} (key : A → ℕ) where
     finds_on (o ∷ es) (suc from) (suc to) le none = finds_on es from to (omega (arith, le)) (λ i ge lt at. none (suc i) (omega (arith, ge)) (omega (arith, lt)) at)
 
     -- where no more entry of the bucket stands, none passes
-    pub finds_none : (es : List (Option A)) (from : ℕ) → HasNoMore b from (buckets_of key es) → find p (left (drop from es)) ≡ None
-    finds_none es from none = finds_on es from (from + length es) (omega arith) (λ i ge lt at. none i ge at) ∙ ap (λ l. find p (left l)) (drop_all (from + length es) es (omega arith))
+    pub finds_none : (es : List (Option A)) (from : ℕ) → HasNoMore b from (buckets_of key es) → find p (present_entries (drop from es)) ≡ None
+    finds_none es from none = finds_on es from (from + length es) (omega arith) (λ i ge lt at. none i ge at) ∙ ap (λ l. find p (present_entries l)) (drop_all (from + length es) es (omega arith))
 
     -- the entry at a place passes, or the search goes on after it
-    goes_on : (es : List (Option A)) (place : ℕ) (x : A) → get_or es place None ≡ Some x → find p (left (drop place es)) ≡ cond (p x) (Some x) (find p (left (drop (suc place) es)))
+    goes_on : (es : List (Option A)) (place : ℕ) (x : A) → get_or es place None ≡ Some x → find p (present_entries (drop place es)) ≡ cond (p x) (Some x) (find p (present_entries (drop (suc place) es)))
     goes_on [] place x h = absurd (none-some x h)
-    goes_on (o ∷ es) zero x h = ap (λ o. find p (left (o ∷ es))) h
+    goes_on (o ∷ es) zero x h = ap (λ o. find p (present_entries (o ∷ es))) h
     goes_on (o ∷ es) (suc place) x h = goes_on es place x h
 
-    pub finds_here : (es : List (Option A)) (place : ℕ) (x : A) → get_or es place None ≡ Some x → find p (left (drop place es)) ≡ cond (p x) (Some x) (find p (left (drop (place + 1) es)))
-    finds_here es place x h = goes_on es place x h ∙ ap (λ k. cond (p x) (Some x) (find p (left (drop k es)))) (sym (add-one place))
+    pub finds_here : (es : List (Option A)) (place : ℕ) (x : A) → get_or es place None ≡ Some x → find p (present_entries (drop place es)) ≡ cond (p x) (Some x) (find p (present_entries (drop (place + 1) es)))
+    finds_here es place x h = goes_on es place x h ∙ ap (λ k. cond (p x) (Some x) (find p (present_entries (drop k es)))) (sym (add-one place))

@@ -9,9 +9,9 @@ IsLast b buckets None = HasNoMore b 0 buckets
 IsLast b buckets (Some place) = (bucket_at buckets place ≡ Some b) × HasNoMore b (place + 1) buckets
 
 -- the place of the last entry of bucket b below a place, if there is one
-abbrev pub IsBehind : ℕ → Option ℕ → ℕ → List (Option ℕ) → Type 0
-IsBehind b None place buckets = HasNone b 0 place buckets
-IsBehind b (Some before) place buckets = (before < place) × (bucket_at buckets before ≡ Some b) × HasNone b (before + 1) place buckets
+abbrev pub IsNextBelow : ℕ → Option ℕ → ℕ → List (Option ℕ) → Type 0
+IsNextBelow b None place buckets = HasNone b 0 place buckets
+IsNextBelow b (Some before) place buckets = (before < place) × (bucket_at buckets before ≡ Some b) × HasNone b (before + 1) place buckets
 
 pub record IsChained (buckets nexts previous firsts lasts : List (Option ℕ)) : Type 0 where
   pub next_places : length nexts ≡ length buckets
@@ -20,7 +20,7 @@ pub record IsChained (buckets nexts previous firsts lasts : List (Option ℕ)) :
   pub last_places : length lasts ≡ BUCKETS
   pub below : (i b : ℕ) → bucket_at buckets i ≡ Some b → b < BUCKETS
   pub next : (i b : ℕ) → bucket_at buckets i ≡ Some b → IsFirst b (i + 1) buckets (slice_index_or nexts i None)
-  pub before : (i b : ℕ) → bucket_at buckets i ≡ Some b → IsBehind b (slice_index_or previous i None) i buckets
+  pub before : (i b : ℕ) → bucket_at buckets i ≡ Some b → IsNextBelow b (slice_index_or previous i None) i buckets
   pub first : (b : ℕ) → b < BUCKETS → IsFirst b 0 buckets (slice_index_or firsts b None)
   pub last : (b : ℕ) → b < BUCKETS → IsLast b buckets (slice_index_or lasts b None)
 

@@ -3,7 +3,7 @@ use Rattle.std.proofs.Common.{◌≡◌, ℕ, ◌+◌, ◌%◌, ◌^◌, ◌<◌
 use Rattle.std.specs.Prelude.{◌==◌, ◌&&◌, Bool, true, false, cond}
 use Rattle.std.proofs.lemmas.Bool.{cond-false}
 use Rattle.std.proofs.lemmas.Grind.{common_steps}
-use Rattle.rv_word.specs.Exec.{Prog, Stops, Goes, action, asked, done, next, perform}
+use Rattle.rv_word.specs.Exec.{Prog, Stops, Goes, action, asked, done_of_outcome, next, perform}
 use Rattle.rv_word.specs.Registers.{reg, with_reg}
 use Rattle.rv_word.specs.Values.{wrap, load_len, store_len}
 use Rattle.rv_word.specs.declared.action.Action.{Action}
@@ -56,11 +56,11 @@ asks_bare (Lr width rd rs1 order) h pc a b = absurd cc
 asks_bare (Sc width rd rs1 rs2 order) h pc a b = absurd cc
 asks_bare (Amo op width rd rs1 rs2 order) h pc a b = absurd cc
 
-leads_as : (lands : Bool) (target : ℕ) (regs bank old : List ℕ) (p : Prog) → cond lands (Ok (stand target (record { regs = regs; bank = bank }))) (Err Misaligned) ≡ done_as (done (cond lands (Goes target regs p) (Stops Misaligned p)) old) bank
+leads_as : (lands : Bool) (target : ℕ) (regs bank old : List ℕ) (p : Prog) → cond lands (Ok (stand target (record { regs = regs; bank = bank }))) (Err Misaligned) ≡ done_as (done_of_outcome (cond lands (Goes target regs p) (Stops Misaligned p)) old) bank
 leads_as true target regs bank old p = refl
 leads_as false target regs bank old p = refl
 
-does_as : (n : ℕ) (a : Action) → IsBare a → (h ticks pc : ℕ) (x : Bench) (p : Prog) → perform_on n a ticks pc x ≡ done_as (done (perform h a pc x.regs p) x.regs) x.bank
+does_as : (n : ℕ) (a : Action) → IsBare a → (h ticks pc : ℕ) (x : Bench) (p : Prog) → perform_on n a ticks pc x ≡ done_as (done_of_outcome (perform h a pc x.regs p) x.regs) x.bank
 unfolding perform_on perform
 does_as n (Compute rd v) bare h ticks pc x p = refl
 does_as n (Jump rd target) bare h ticks pc x p = leads_as (target % 4 == 0) target (with_reg x.regs rd (next pc)) x.bank x.regs p
@@ -75,11 +75,11 @@ does_as n (AtomicAccess op width rd at v) bare h ticks pc x p = absurd bare
 does_as n SystemCall bare h ticks pc x p = absurd bare
 does_as n (Halt cause) bare h ticks pc x p = absurd bare
 
-leads_with : (lands : Bool) (target : ℕ) (regs old : List ℕ) (p : Prog) → (done (cond lands (Goes target regs p) (Stops Misaligned p)) old).prog ≡ p
+leads_with : (lands : Bool) (target : ℕ) (regs old : List ℕ) (p : Prog) → (done_of_outcome (cond lands (Goes target regs p) (Stops Misaligned p)) old).prog ≡ p
 leads_with true target regs old p = refl
 leads_with false target regs old p = refl
 
-shares_nothing : (a : Action) → IsBare a → (h pc : ℕ) (regs : List ℕ) (p : Prog) → (done (perform h a pc regs p) regs).prog ≡ p
+shares_nothing : (a : Action) → IsBare a → (h pc : ℕ) (regs : List ℕ) (p : Prog) → (done_of_outcome (perform h a pc regs p) regs).prog ≡ p
 unfolding perform
 shares_nothing (Compute rd v) bare h pc regs p = refl
 shares_nothing (Jump rd target) bare h pc regs p = leads_with (target % 4 == 0) target (with_reg regs rd (next pc)) regs p

@@ -1,6 +1,6 @@
 -- For proofs alone: the operations that the slots of a store keep for their words.
 use Rattle.std.specs.Prelude.{◌≡◌, ℕ, ◌+◌, ◌/◌, ◌<◌, ◌^◌, if◌then◌else◌, not, Bool, true, false, Option, Some, None, Result, Ok, Err, List, [], ◌∷◌, IfSome}
-use Rattle.rv_word.specs.Exec.{Prog, Done, done, exec_decoded, next}
+use Rattle.rv_word.specs.Exec.{Prog, Done, done_of_outcome, exec_decoded, next}
 use Rattle.rv_word.specs.Registers.{reg}
 use Rattle.rv_word.specs.Table.{decode_of}
 use Rattle.rv_word.specs.Values.{wrap}
@@ -49,8 +49,8 @@ done_as d bank = stands_as d.next d.regs bank
 -- under a mark that reaches n doublewords the instruction does what it does in the program
 pub record RunsAlike (n : ℕ) (i : Option Instr) : Type 0 where
   pub step : (h ticks pc : ℕ) (x : Bench) (p : Prog)
-      → step_decoded n i ticks pc x ≡ done_as (done (exec_decoded i pc h x.regs p) x.regs) x.bank
-  pub prog : (h pc : ℕ) (regs : List ℕ) (p : Prog) → (done (exec_decoded i pc h regs p) regs).prog ≡ p
+      → step_decoded n i ticks pc x ≡ done_as (done_of_outcome (exec_decoded i pc h x.regs p) x.regs) x.bank
+  pub prog : (h pc : ℕ) (regs : List ℕ) (p : Prog) → (done_of_outcome (exec_decoded i pc h regs p) regs).prog ≡ p
 
 -- a load of the doubleword at an address of the bank
 abbrev pub bank_loaded : ℕ → ℕ → ℕ → ℕ → Bench → Result Stood Cause

@@ -4,8 +4,8 @@ use Rattle.std.specs.Prelude.{option_map, slice_get, slice_set}
 use Rattle.std.specs.Option.{option_and_then, is_some}
 use Rattle.std.specs.List.{list_any, list_all}
 use Rattle.std.proofs.lemmas.List.{length-set}
-use Rattle.command_words.specs.Grammar.{Text, Form, Taken, Kind, end_of_options, option, other_flag, plain, each_once, is_among, given_in, kind_of, taken_of}
-use Rattle.command_words.specs.Walks.{slot_of, Values, no_values, value_at, value_of, put_at, put, Walk, placed_at, placed, with_value, optioned, by_kind, by_value, walked, finished, values_of}
+use Rattle.command_words.specs.Grammar.{Text, Form, NamedValues, Kind, end_of_options, option, other_flag, plain, each_once, is_among, given_in, kind_of, taken_of}
+use Rattle.command_words.specs.Walks.{slot_of, Values, no_values, value_at, value_of, put_at, with_named, Walk, placed_at, with_place, with_value, optioned, by_kind, by_value, walked, walk_values, values_of}
 use Rattle.command_words.proofs.Machine as machine
 use Rattle.command_words.proofs.Machine.{has, ended, behind, by_place, by_option, read, machine_takes}
 use Rattle.command_words.proofs.ValuesTaken.{has_is, SameGiven}
@@ -32,19 +32,19 @@ next_is (p ∷ ps) (suc k) = next_is ps k ∙ by (slice_get ps k)
 -- ---- both ways of reading
 
 -- values for what was taken, or neither
-abbrev pub Same : Form → Option Values → Option Taken → Type 0
+abbrev pub Same : Form → Option Values → Option NamedValues → Type 0
 Same form None None = Unit {0}
 Same form None (Some t) = ⊥
 Same form (Some v) None = ⊥
 Same form (Some v) (Some t) = Agree form v t
 
-full_is : (form : Form) (places : List Text) (values : Values) (taken : Taken) → Agree form values taken → list_all (λ name. is_some (value_of form values name)) places ≡ list_all (λ place. has place taken) places
+full_is : (form : Form) (places : List Text) (values : Values) (taken : NamedValues) → Agree form values taken → list_all (λ name. is_some (value_of form values name)) places ≡ list_all (λ place. has place taken) places
 full_is form [] values taken agree = refl
 full_is form (p ∷ ps) values taken agree =
     ap (λ b. b && list_all (λ name. is_some (value_of form values name)) ps) (ap is_some (agree p) ∙ sym (has_is p taken))
     ∙ ap (λ b. has p taken && b) (full_is form ps values taken agree)
 
-end_agrees : (form : Form) (values : Values) (taken : Taken) → Agree form values taken → Same form (cond (list_all (λ name. is_some (value_of form values name)) form.places) (Some values) None) (ended form taken)
+end_agrees : (form : Form) (values : Values) (taken : NamedValues) → Agree form values taken → Same form (cond (list_all (λ name. is_some (value_of form values name)) form.places) (Some values) None) (ended form taken)
 end_agrees form values taken agree =
     subst (λ b. Same form (cond b (Some values) None) (ended form taken)) (sym (full_is form form.places values taken agree)) (by (list_all (λ place. has place taken) form.places))
   where
@@ -53,8 +53,8 @@ end_agrees form values taken agree =
     by false = tt
 
 -- a value is put where the name was not given before
-put_same : (form : Form) (few : IsFew form) (values : Values) (taken : Taken) (name value : Text) → Known form name → length values ≡ 16 → Agree form values taken → (F : Option Values → Option Values) (g : Taken → Option Taken) → Same form (F None) None → ((vs : Values) (ts : Taken) → length vs ≡ 16 → Agree form vs ts → Same form (F (Some vs)) (g ts)) →
-    Same form (F (put form values name value)) (cond (has name taken) None (g (taken ++ (name, value) ∷ [])))
+put_same : (form : Form) (few : IsFew form) (values : Values) (taken : NamedValues) (name value : Text) → Known form name → length values ≡ 16 → Agree form values taken → (F : Option Values → Option Values) (g : NamedValues → Option NamedValues) → Same form (F None) None → ((vs : Values) (ts : NamedValues) → length vs ≡ 16 → Agree form vs ts → Same form (F (Some vs)) (g ts)) →
+    Same form (F (with_named form values name value)) (cond (has name taken) None (g (taken ++ (name, value) ∷ [])))
 put_same form few values taken name value known len agree F g none some =
     subst (λ (o : Option Values). Same form (F o) (cond (has name taken) None (g (taken ++ (name, value) ∷ [])))) (sym put_is)
     (subst (λ b. Same form (F (cond (is_some (get_or values slot None)) None (Some (slice_set values slot (Some value))))) (cond b None (g (taken ++ (name, value) ∷ [])))) (sym has_too) (by (is_some (get_or values slot None)) refl))
@@ -65,7 +65,7 @@ put_same form few values taken name value known len agree F g none some =
     there : slot_of form name ≡ Some slot
     there = known.1
 
-    put_is : put form values name value ≡ cond (is_some (get_or values slot None)) None (Some (slice_set values slot (Some value)))
+    put_is : with_named form values name value ≡ cond (is_some (get_or values slot None)) None (Some (slice_set values slot (Some value)))
     put_is = ap (λ (o : Option ℕ). put_at values o value) there
 
     value_is : value_of form values name ≡ get_or values slot None
@@ -85,18 +85,18 @@ abbrev walk_at : Values → ℕ → Option Text → Bool → Walk
 walk_at values k awaiting behind = record { values = values; placed = k; awaiting = awaiting; behind = behind }
 
 abbrev run : Form → Walk → List Text → Option Values
-run form w words = option_and_then (finished form) (walked form w words)
+run form w words = option_and_then (walk_values form) (walked form w words)
 
 abbrev run_on : Form → List Text → Option Walk → Option Values
-run_on form words o = option_and_then (finished form) (option_and_then (λ v. walked form v words) o)
+run_on form words o = option_and_then (walk_values form) (option_and_then (λ v. walked form v words) o)
 
 -- from values that agree with what was taken both go on the same, wherever the walk stands
 record GoesOn (form : Form) (words : List Text) : Type 0 where
-  here : (values : Values) (k : ℕ) (taken : Taken) → length values ≡ 16 → Agree form values taken → Same form (run form (walk_at values k None false) words) (read form (drop k form.places) taken None words)
-  waits : (values : Values) (k : ℕ) (taken : Taken) (name : Text) → Known form name → length values ≡ 16 → Agree form values taken → Same form (run form (walk_at values k (Some name) false) words) (read form (drop k form.places) taken (Some name) words)
-  past : (values : Values) (k : ℕ) (taken : Taken) → length values ≡ 16 → Agree form values taken → Same form (run form (walk_at values k None true) words) (behind form (drop k form.places) taken words)
+  here : (values : Values) (k : ℕ) (taken : NamedValues) → length values ≡ 16 → Agree form values taken → Same form (run form (walk_at values k None false) words) (read form (drop k form.places) taken None words)
+  waits : (values : Values) (k : ℕ) (taken : NamedValues) (name : Text) → Known form name → length values ≡ 16 → Agree form values taken → Same form (run form (walk_at values k (Some name) false) words) (read form (drop k form.places) taken (Some name) words)
+  past : (values : Values) (k : ℕ) (taken : NamedValues) → length values ≡ 16 → Agree form values taken → Same form (run form (walk_at values k None true) words) (behind form (drop k form.places) taken words)
 
-module _ (form : Form) (few : IsFew form) (words : List Text) (more : GoesOn form words) (values : Values) (k : ℕ) (taken : Taken) (len : length values ≡ 16) (agree : Agree form values taken) where
+module _ (form : Form) (few : IsFew form) (words : List Text) (more : GoesOn form words) (values : Values) (k : ℕ) (taken : NamedValues) (len : length values ≡ 16) (agree : Agree form values taken) where
   -- a word for the next place
   place_word : (word : Text) (o : Option Text) → slice_get form.places k ≡ o → Same form (run_on form words (placed_at form (walk_at values k None false) o word)) (by_place (next_places form.places k o) word taken (λ ps t awaiting. read form ps t awaiting words))
   place_word word None e = tt
@@ -140,7 +140,7 @@ module _ (form : Form) (few : IsFew form) (words : List Text) (more : GoesOn for
       (option_word name value (is_among form.options name) refl)
   kind_word word other_flag = tt
   kind_word word plain =
-      subst (λ (ps : List Text). Same form (run_on form words (placed form (walk_at values k None false) word)) (by_place ps word taken (λ ps t awaiting. read form ps t awaiting words))) (sym (next_is form.places k))
+      subst (λ (ps : List Text). Same form (run_on form words (with_place form (walk_at values k None false) word)) (by_place ps word taken (λ ps t awaiting. read form ps t awaiting words))) (sym (next_is form.places k))
       (place_word word (slice_get form.places k) refl)
 
   value_word : (name word : Text) → Known form name → (kind : Kind) → Same form (run_on form words (by_value form (walk_at values k (Some name) false) name kind word)) (machine.by_value kind name word taken (read form (drop k form.places) (taken ++ (name, word) ∷ []) None words))
@@ -154,9 +154,9 @@ module _ (form : Form) (few : IsFew form) (words : List Text) (more : GoesOn for
       tt
       (λ vs ts l a. more.here vs k ts l a)
 
-  behind_word : (word : Text) → Same form (run_on form words (placed form (walk_at values k None true) word)) (behind form (drop k form.places) taken (word ∷ words))
+  behind_word : (word : Text) → Same form (run_on form words (with_place form (walk_at values k None true) word)) (behind form (drop k form.places) taken (word ∷ words))
   behind_word word =
-      subst (λ (ps : List Text). Same form (run_on form words (placed form (walk_at values k None true) word)) (behind form ps taken (word ∷ words))) (sym (next_is form.places k))
+      subst (λ (ps : List Text). Same form (run_on form words (with_place form (walk_at values k None true) word)) (behind form ps taken (word ∷ words))) (sym (next_is form.places k))
       (past_word word (slice_get form.places k) refl)
 
 goes_on : (form : Form) (few : IsFew form) (words : List Text) → GoesOn form words
@@ -171,10 +171,10 @@ goes_on form few (word ∷ words) = record {
   past = λ values k taken len agree. behind_word form few words (goes_on form few words) values k taken len agree word;
 }
 
-same_then_given : (form : Form) (v : Option Values) (r t : Option Taken) → Same form v r → SameGiven r t → Same form v t
+same_then_given : (form : Form) (v : Option Values) (r t : Option NamedValues) → Same form v r → SameGiven r t → Same form v t
 same_then_given form None None t h k = by t k
   where
-    by : (t : Option Taken) → SameGiven None t → Same form None t
+    by : (t : Option NamedValues) → SameGiven None t → Same form None t
     by None k = tt
     by (Some t) k = absurd k
 same_then_given form None (Some r) t h k = absurd h

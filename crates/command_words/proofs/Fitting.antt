@@ -7,7 +7,7 @@ use Rattle.std.specs.Str.{bytes_eq}
 use Rattle.clap.specs.Walk.{Row, Rule, arg_by_id, arg_by_long, arg_by_short, first_of}
 use Rattle.clap.specs.Takes.{is_given}
 use Rattle.clap.specs.Kinds.{Kinds}
-use Rattle.command_words.specs.Grammar.{Text, Form, Taken, given_in, is_among, is_named}
+use Rattle.command_words.specs.Grammar.{Text, Form, NamedValues, given_in, is_among, is_named}
 use Rattle.command_words.proofs.Machine.{has, option_named}
 use Rattle.command_words.proofs.ValuesTaken.{bytes_sym, same_bytes, not_same}
 use Rattle.command_words.proofs.Rows.{row, option_rule, place_rules, rules_of, Fits, NoDefaults, PlacesFit, is_given-row}
@@ -55,14 +55,14 @@ no_defaults_of i [] [] = tt
 no_defaults_of i [] (o ∷ os) = (refl, no_defaults_of i [] os)
 no_defaults_of i (place ∷ places) options = (refl, no_defaults_of (i + 1) places options)
 
-abbrev is_wanting : Taken → Rule → Bool
+abbrev is_wanting : NamedValues → Rule → Bool
 is_wanting taken a = a.required && not (is_given a.id (map row taken))
 
-no_option_wanted : (options : List Text) (taken : Taken) → list_any (is_wanting taken) (map option_rule options) ≡ false
+no_option_wanted : (options : List Text) (taken : NamedValues) → list_any (is_wanting taken) (map option_rule options) ≡ false
 no_option_wanted [] taken = refl
 no_option_wanted (o ∷ os) taken = no_option_wanted os taken
 
-wanted : (i : ℕ) (places options : List Text) (taken : Taken) → list_any (is_wanting taken) (place_rules i places ++ map option_rule options) ≡ not (list_all (λ place. has place taken) places)
+wanted : (i : ℕ) (places options : List Text) (taken : NamedValues) → list_any (is_wanting taken) (place_rules i places ++ map option_rule options) ≡ not (list_all (λ place. has place taken) places)
 wanted i [] options taken = no_option_wanted options taken
 wanted i (place ∷ places) options taken = go (wanted (i + 1) places options taken) (is_given place (map row taken)) (has place taken) (is_given-row place taken)
   where
@@ -111,7 +111,7 @@ fits_with form places unlike = record {
 -- ---- what clap holds
 
 -- the value of a name
-pub first_of-row : (name : Text) (taken : Taken) → first_of name (map row taken) ≡ given_in taken name
+pub first_of-row : (name : Text) (taken : NamedValues) → first_of name (map row taken) ≡ given_in taken name
 first_of-row name [] = refl
 first_of-row name (t ∷ ts) = go (first_of-row name ts) (bytes_eq t.0 name)
   where
@@ -120,10 +120,10 @@ first_of-row name (t ∷ ts) = go (first_of-row name ts) (bytes_eq t.0 name)
     go h true = refl
     go h false = h
 
-pub taken_from : (r : Option Taken) (k : Kinds) (rows : List Row) → Agrees r k rows → k ≡ [] → (t : Taken) × (r ≡ Some t) × (rows ≡ map row t)
+pub taken_from : (r : Option NamedValues) (k : Kinds) (rows : List Row) → Agrees r k rows → k ≡ [] → (t : NamedValues) × (r ≡ Some t) × (rows ≡ map row t)
 taken_from None k rows a e = absurd (a e)
 taken_from (Some t) k rows a e = (t, refl, a.1)
 
-pub none_from : (r : Option Taken) (k : Kinds) (rows : List Row) → Agrees r k rows → (k ≡ [] → ⊥) → r ≡ None
+pub none_from : (r : Option NamedValues) (k : Kinds) (rows : List Row) → Agrees r k rows → (k ≡ [] → ⊥) → r ≡ None
 none_from None k rows a h = refl
 none_from (Some t) k rows a h = absurd (h a.0)

@@ -2,7 +2,7 @@
 use Rattle.std.proofs.Common.{◌≡◌, List, ◌∷◌, refl, ap, sym, ◌∙◌, Option, None, Some}
 use Rattle.std.specs.Prelude.{codes}
 use Rattle.std.specs.Option.{option_and_then}
-use Rattle.command_words.specs.Grammar.{Text, Form, Taken, given_in, taken_of}
+use Rattle.command_words.specs.Grammar.{Text, Form, NamedValues, given_in, taken_of}
 use Rattle.command_words.specs.Commands.{form_of, command_named}
 use Rattle.command_words.specs.Requests.{Request, request_from}
 use Rattle.command_words.specs.Logs.{log_from, log_of}
@@ -16,7 +16,7 @@ abbrev pub log_with : CommandName → Form → Option Values → Option Text
 log_with command form None = None
 log_with command form (Some values) = log_from command (value_of form values)
 
-from_same : (command : CommandName) (form : Form) (v : Option Values) (t : Option Taken) → Same form v t → option_and_then (λ taken. log_from command (given_in taken)) t ≡ log_with command form v
+from_same : (command : CommandName) (form : Form) (v : Option Values) (t : Option NamedValues) → Same form v t → option_and_then (λ taken. log_from command (given_in taken)) t ≡ log_with command form v
 from_same command form None None h = refl
 from_same command form None (Some t) h = absurd h
 from_same command form (Some v) None h = absurd h

@@ -6,7 +6,7 @@ use Rattle.std.proofs.Math.Bool.{and-false, or-false, or-true}
 use Rattle.std.proofs.Math.Dec.{eqb-suc-suc, eqb-suc-zero, eqb-zero-suc}
 use Rattle.std.proofs.lemmas.List.{append-nil}
 use Rattle.std.proofs.lemmas.List.Folds.{list_all-append, list_any-append}
-use Rattle.command_words.specs.Grammar.{Text, Form, Taken, is_among, is_named, each_once}
+use Rattle.command_words.specs.Grammar.{Text, Form, NamedValues, is_among, is_named, each_once}
 use Rattle.command_words.proofs.Machine.{has, ended}
 use Rattle.command_words.proofs.ValuesTaken.{bytes_sym, eq_bytes, not_same, given_zip, given_moved, SameGiven}
 
@@ -50,23 +50,23 @@ split_new false false a n = refl
 
 -- ---- what is had
 
-has_more : (name : Text) (taken : Taken) (t : Text × Text) → has name (taken ++ t ∷ []) ≡ (has name taken || bytes_eq t.0 name)
+has_more : (name : Text) (taken : NamedValues) (t : Text × Text) → has name (taken ++ t ∷ []) ≡ (has name taken || bytes_eq t.0 name)
 has_more name taken t = list_any-append (is_named name) taken (t ∷ []) ∙ ap (λ b. has name taken || b) (or-false (bytes_eq t.0 name))
 
-abbrev pub are_held : List Text → Taken → Bool
+abbrev pub are_held : List Text → NamedValues → Bool
 are_held names taken = list_all (λ name. has name taken) names
 
-abbrev pub is_any_held : List Text → Taken → Bool
+abbrev pub is_any_held : List Text → NamedValues → Bool
 is_any_held names taken = list_any (λ name. has name taken) names
 
-stay_held : (names : List Text) (taken : Taken) (t : Text × Text) → are_held names taken ≡ true → are_held names (taken ++ t ∷ []) ≡ true
+stay_held : (names : List Text) (taken : NamedValues) (t : Text × Text) → are_held names taken ≡ true → are_held names (taken ++ t ∷ []) ≡ true
 stay_held [] taken t e = refl
 stay_held (name ∷ names) taken t e =
     let h = and_yes (has name taken) (are_held names taken) e in
     ap (λ b. b && are_held names (taken ++ t ∷ [])) (has_more name taken t ∙ ap (λ b. b || bytes_eq t.0 name) h.0) ∙ stay_held names taken t h.1
 
 -- names unlike a new one are as free as before
-stay_free : (names : List Text) (taken : Taken) (t : Text × Text) → is_among names t.0 ≡ false → is_any_held names taken ≡ false → is_any_held names (taken ++ t ∷ []) ≡ false
+stay_free : (names : List Text) (taken : NamedValues) (t : Text × Text) → is_among names t.0 ≡ false → is_any_held names taken ≡ false → is_any_held names (taken ++ t ∷ []) ≡ false
 stay_free [] taken t unlike e = refl
 stay_free (name ∷ names) taken t unlike e =
     let u = or_no (bytes_eq t.0 name) (is_among names t.0) unlike in
@@ -80,7 +80,7 @@ module _ (form : Form) where
   -- ---- where the reading stands
 
   -- the places that have their words, those that are left, and what was taken
-  pub record Stands (done places : List Text) (taken : Taken) : Type 0 where
+  pub record Stands (done places : List Text) (taken : NamedValues) : Type 0 where
     pub whole : form.places ≡ done ++ places
     pub held : are_held done taken ≡ true
     pub free : is_any_held places taken ≡ false
@@ -94,7 +94,7 @@ module _ (form : Form) where
       let u = or_no (is_option place) (list_any is_option places) unlike in
       ap (λ b. b || is_among places name) (not_same form.options name place e u.0) ∙ unlike_option places name u.1 e
 
-  pub stands_placed : (done places : List Text) (place word : Text) (taken : Taken) → Stands done (place ∷ places) taken → Stands (done ++ place ∷ []) places (taken ++ (place, word) ∷ [])
+  pub stands_placed : (done places : List Text) (place word : Text) (taken : NamedValues) → Stands done (place ∷ places) taken → Stands (done ++ place ∷ []) places (taken ++ (place, word) ∷ [])
   stands_placed done places place word taken s =
       let free = or_no (has place taken) (is_any_held places taken) s.free in
       let once = and_yes (not (is_among places place)) (each_once places) s.once in
@@ -109,10 +109,10 @@ module _ (form : Form) where
         unlike = unlike.1;
       }
     where
-      has_new : (place word : Text) (taken : Taken) → has place (taken ++ (place, word) ∷ []) ≡ true
+      has_new : (place word : Text) (taken : NamedValues) → has place (taken ++ (place, word) ∷ []) ≡ true
       has_new place word taken = has_more place taken (place, word) ∙ ap (λ b. has place taken || b) (eq_bytes place) ∙ or-true (has place taken)
 
-  pub stands_given : (done places : List Text) (name value : Text) (taken : Taken) → is_option name ≡ true → Stands done places taken → Stands done places (taken ++ (name, value) ∷ [])
+  pub stands_given : (done places : List Text) (name value : Text) (taken : NamedValues) → is_option name ≡ true → Stands done places taken → Stands done places (taken ++ (name, value) ∷ [])
   stands_given done places name value taken e s = record {
     whole = s.whole;
     held = stay_held done taken (name, value) s.held;
@@ -123,20 +123,20 @@ module _ (form : Form) where
 
   -- ---- what is left to take
 
-  abbrev pub names_of : Taken → List Text
+  abbrev pub names_of : NamedValues → List Text
   names_of options = map (λ o. o.0) options
 
-  abbrev are_new : List Text → Taken → Bool
+  abbrev are_new : List Text → NamedValues → Bool
   are_new names taken = list_all (λ name. not (has name taken)) names
 
-  abbrev fit : List Text → Taken → List Text → Taken → Bool
+  abbrev fit : List Text → NamedValues → List Text → NamedValues → Bool
   fit places taken words options = (((length words == length places) && list_all is_option (names_of options)) && each_once (names_of options)) && are_new (names_of options) taken
 
-  abbrev pub rest : List Text → Taken → List Text → Taken → Option Taken
+  abbrev pub rest : List Text → NamedValues → List Text → NamedValues → Option NamedValues
   rest places taken words options = cond (fit places taken words options) (Some (taken ++ (zip places words ++ options))) None
 
   -- a word for the next place
-  new_still : (names : List Text) (taken : Taken) (t : Text × Text) → is_option t.0 ≡ false → list_all is_option names ≡ true → are_new names (taken ++ t ∷ []) ≡ are_new names taken
+  new_still : (names : List Text) (taken : NamedValues) (t : Text × Text) → is_option t.0 ≡ false → list_all is_option names ≡ true → are_new names (taken ++ t ∷ []) ≡ are_new names taken
   new_still [] taken t unlike e = refl
   new_still (name ∷ names) taken t unlike e =
       let h = and_yes (is_option name) (list_all is_option names) e in
@@ -148,18 +148,18 @@ module _ (form : Form) where
       differ name t e unlike = bytes_sym t.0 name ∙ not_same form.options name t.0 e unlike
 
   -- a new name is unlike those that are to come
-  new_more : (names : List Text) (taken : Taken) (t : Text × Text) → are_new names (taken ++ t ∷ []) ≡ (not (is_among names t.0) && are_new names taken)
+  new_more : (names : List Text) (taken : NamedValues) (t : Text × Text) → are_new names (taken ++ t ∷ []) ≡ (not (is_among names t.0) && are_new names taken)
   new_more [] taken t = refl
   new_more (name ∷ names) taken t =
       ap (λ b. not b && are_new names (taken ++ t ∷ [])) (has_more name taken t)
       ∙ ap (λ b. not (has name taken || bytes_eq t.0 name) && b) (new_more names taken t)
       ∙ split_new (has name taken) (bytes_eq t.0 name) (is_among names t.0) (are_new names taken)
 
-  pub rest_placed : (places : List Text) (place word : Text) (words : List Text) (taken options : Taken) → is_option place ≡ false →
+  pub rest_placed : (places : List Text) (place word : Text) (words : List Text) (taken options : NamedValues) → is_option place ≡ false →
       rest (place ∷ places) taken (word ∷ words) options ≡ rest places (taken ++ (place, word) ∷ []) words options
   rest_placed places place word words taken options unlike =
       ap (λ b. cond b (Some (taken ++ ((place, word) ∷ (zip places words ++ options)))) None) (by (list_all is_option (names_of options)) refl)
-      ∙ ap (λ (t : Taken). cond (fit places (taken ++ (place, word) ∷ []) words options) (Some t) None) (sym (append_assoc taken ((place, word) ∷ []) (zip places words ++ options)))
+      ∙ ap (λ (t : NamedValues). cond (fit places (taken ++ (place, word) ∷ []) words options) (Some t) None) (sym (append_assoc taken ((place, word) ∷ []) (zip places words ++ options)))
     where
       by : (b : Bool) → list_all is_option (names_of options) ≡ b → fit (place ∷ places) taken (word ∷ words) options ≡ fit places (taken ++ (place, word) ∷ []) words options
       by true e =
@@ -171,30 +171,30 @@ module _ (form : Form) where
           ∙ sym (no_known (length words == length places) (each_once (names_of options)) (are_new (names_of options) (taken ++ (place, word) ∷ [])))
           ∙ ap (λ b. (((length words == length places) && b) && each_once (names_of options)) && are_new (names_of options) (taken ++ (place, word) ∷ [])) (sym e)
 
-  pub rest_surplus : (word : Text) (words : List Text) (taken options : Taken) → rest [] taken (word ∷ words) options ≡ None
+  pub rest_surplus : (word : Text) (words : List Text) (taken options : NamedValues) → rest [] taken (word ∷ words) options ≡ None
   rest_surplus word words taken options =
       ap (λ b. cond (((b && list_all is_option (names_of options)) && each_once (names_of options)) && are_new (names_of options) taken) (Some (taken ++ options)) None) (eqb-suc-zero (length words))
 
   -- an option
-  pub rest_unknown : (places words : List Text) (name value : Text) (taken options : Taken) → is_option name ≡ false → rest places taken words ((name, value) ∷ options) ≡ None
+  pub rest_unknown : (places words : List Text) (name value : Text) (taken options : NamedValues) → is_option name ≡ false → rest places taken words ((name, value) ∷ options) ≡ None
   rest_unknown places words name value taken options e =
       ap (λ b. cond b (Some (taken ++ (zip places words ++ (name, value) ∷ options))) None)
       (ap (λ b. (((length words == length places) && (b && list_all is_option (names_of options))) && each_once (names_of ((name, value) ∷ options))) && are_new (names_of ((name, value) ∷ options)) taken) e
       ∙ no_known (length words == length places) (each_once (names_of ((name, value) ∷ options))) (are_new (names_of ((name, value) ∷ options)) taken))
 
-  fit_given : (places words : List Text) (name value : Text) (taken options : Taken) → is_option name ≡ true →
+  fit_given : (places words : List Text) (name value : Text) (taken options : NamedValues) → is_option name ≡ true →
       fit places taken words ((name, value) ∷ options) ≡ (not (has name taken) && fit places (taken ++ (name, value) ∷ []) words options)
   fit_given places words name value taken options e =
       ap (λ b. (((length words == length places) && (b && list_all is_option (names_of options))) && each_once (names_of ((name, value) ∷ options))) && are_new (names_of ((name, value) ∷ options)) taken) e
       ∙ shifted (length words == length places) (list_all is_option (names_of options)) (is_among (names_of options) name) (each_once (names_of options)) (has name taken) (are_new (names_of options) taken)
       ∙ ap (λ b. not (has name taken) && ((((length words == length places) && list_all is_option (names_of options)) && each_once (names_of options)) && b)) (sym (new_more (names_of options) taken (name, value)))
 
-  pub rest_twice : (places words : List Text) (name value : Text) (taken options : Taken) → is_option name ≡ true → has name taken ≡ true → rest places taken words ((name, value) ∷ options) ≡ None
+  pub rest_twice : (places words : List Text) (name value : Text) (taken options : NamedValues) → is_option name ≡ true → has name taken ≡ true → rest places taken words ((name, value) ∷ options) ≡ None
   rest_twice places words name value taken options e twice =
       ap (λ b. cond b (Some (taken ++ (zip places words ++ (name, value) ∷ options))) None)
       (fit_given places words name value taken options e ∙ ap (λ b. not b && fit places (taken ++ (name, value) ∷ []) words options) twice)
 
-  pub rest_given : (done places words : List Text) (name value : Text) (taken options : Taken) → Stands done places taken → is_option name ≡ true → has name taken ≡ false →
+  pub rest_given : (done places words : List Text) (name value : Text) (taken options : NamedValues) → Stands done places taken → is_option name ≡ true → has name taken ≡ false →
       SameGiven (rest places (taken ++ (name, value) ∷ []) words options) (rest places taken words ((name, value) ∷ options))
   rest_given done places words name value taken options s e new =
       subst (λ b. SameGiven (rest places (taken ++ (name, value) ∷ []) words options) (cond b (Some (taken ++ (zip places words ++ (name, value) ∷ options))) None))
@@ -206,11 +206,11 @@ module _ (form : Form) where
       by false = tt
 
   -- the end
-  pub rest_end : (done places : List Text) (taken : Taken) → Stands done places taken → ended form taken ≡ rest places taken [] []
+  pub rest_end : (done places : List Text) (taken : NamedValues) → Stands done places taken → ended form taken ≡ rest places taken [] []
   rest_end done [] taken s =
       ap (λ (names : List Text). cond (are_held names taken) (Some taken) None) (s.whole ∙ append-nil done)
       ∙ ap (λ b. cond b (Some taken) None) s.held
-      ∙ ap (λ (t : Taken). Some t) (sym (append-nil taken))
+      ∙ ap (λ (t : NamedValues). Some t) (sym (append-nil taken))
   rest_end done (place ∷ places) taken s =
       let free = or_no (has place taken) (is_any_held places taken) s.free in
       ap (λ (names : List Text). cond (are_held names taken) (Some taken) None) s.whole

@@ -5,7 +5,7 @@ use Rattle.std.specs.List.{after_first, before_first, filter_map, list_all, list
 use Rattle.std.specs.Option.{option_and_then}
 use Rattle.std.specs.Str.{bytes_eq}
 use Rattle.std.proofs.Math.Bool.{and-true}
-use Rattle.command_words.specs.Grammar.{fits, Text, Form, Taken, Item, positional, valued, Kind, end_of_options, option, other_flag, plain, kind_of, option_kind, begins, is_separator, is_among, each_once, with_next, with_word, items_of, word_in, option_in, taken_by, taken_of}
+use Rattle.command_words.specs.Grammar.{fits, Text, Form, NamedValues, Item, positional, valued, Kind, end_of_options, option, other_flag, plain, kind_of, option_kind, begins, is_separator, is_among, each_once, with_next, with_word, items_of, word_in, option_in, taken_by, taken_of}
 use Rattle.command_words.proofs.Machine.{has, behind, by_place, by_option, by_kind, by_value, option_named, read, machine_takes}
 use Rattle.command_words.proofs.ValuesTaken.{same_bytes, bytes_sym, SameGiven, same_equal, same_then}
 use Rattle.command_words.proofs.LeftToTake.{Stands, names_of, stands_placed, stands_given, rest, rest_placed, rest_surplus, rest_unknown, rest_twice, rest_given, rest_end, or_no, is_any_held}
@@ -69,11 +69,11 @@ find_option (o ∷ os) name = by (find_option os name) (bytes_eq name o) refl
 
 module _ (form : Form) where
   -- what items give where the reading stands, with words after them that are positional
-  abbrev gone : List Text → Taken → List Text → Option (List Item) → Option Taken
+  abbrev gone : List Text → NamedValues → List Text → Option (List Item) → Option NamedValues
   gone places taken tail None = None
   gone places taken tail (Some items) = rest form places taken (filter_map word_in items ++ tail) (filter_map option_in items)
 
-  behind_same : (words done places : List Text) (taken : Taken) → Stands form done places taken → behind form places taken words ≡ rest form places taken words []
+  behind_same : (words done places : List Text) (taken : NamedValues) → Stands form done places taken → behind form places taken words ≡ rest form places taken words []
   behind_same [] done places taken s = rest_end form done places taken s
   behind_same (word ∷ words) done [] taken s = sym (rest_surplus form word words taken [])
   behind_same (word ∷ words) done (place ∷ places) taken s =
@@ -86,15 +86,15 @@ module _ (form : Form) where
   -- ---- one word, where those after it are read as they should be
 
   abbrev Idle : List Text → Type 0
-  Idle words = (done places : List Text) (taken : Taken) → Stands form done places taken →
+  Idle words = (done places : List Text) (taken : NamedValues) → Stands form done places taken →
       SameGiven (read form places taken None words) (gone places taken (after words) (items_of (before words)))
 
   abbrev Waits : List Text → Type 0
-  Waits words = (done places : List Text) (taken : Taken) (name : Text) → Stands form done places taken → is_among form.options name ≡ true →
+  Waits words = (done places : List Text) (taken : NamedValues) (name : Text) → Stands form done places taken → is_among form.options name ≡ true →
       SameGiven (read form places taken (Some name) words) (gone places taken (after words) (option_and_then (with_next name) (items_of (before words))))
 
-  module _ (word : Text) (words : List Text) (idle : Idle words) (waits : Waits words) (done places : List Text) (taken : Taken) (s : Stands form done places taken) where
-    abbrev next : List Text → Taken → Option Text → Option Taken
+  module _ (word : Text) (words : List Text) (idle : Idle words) (waits : Waits words) (done places : List Text) (taken : NamedValues) (s : Stands form done places taken) where
+    abbrev next : List Text → NamedValues → Option Text → Option NamedValues
     next places taken awaiting = read form places taken awaiting words
 
     -- an option and its value
@@ -158,14 +158,14 @@ module _ (form : Form) where
         let free = or_no (has place taken) (is_any_held ps taken) st.free in
         let unlike = or_no (is_among form.options place) (list_any (is_among form.options) ps) st.unlike in
         subst (λ b. SameGiven (cond b None (next ps (taken ++ (place, word) ∷ []) None)) (gone (place ∷ ps) taken (after words) (option_and_then with_plain (items_of (before words))))) (sym free.0)
-        (subst (λ (o : Option Taken). SameGiven (next ps (taken ++ (place, word) ∷ []) None) o) (takes_place place ps unlike.0 (items_of (before words)))
+        (subst (λ (o : Option NamedValues). SameGiven (next ps (taken ++ (place, word) ∷ []) None) o) (takes_place place ps unlike.0 (items_of (before words)))
         (idle (done ++ place ∷ []) ps (taken ++ (place, word) ∷ []) (stands_placed form done ps place word taken st)))
 
     no_items : (items : Option (List Item)) → None ≡ gone places taken (after words) (option_and_then (λ items. None) items)
     no_items None = refl
     no_items (Some items) = refl
 
-    kind_word : (kind : Kind) → (kind ≡ end_of_options → ⊥) → (tail : Option Taken) →
+    kind_word : (kind : Kind) → (kind ≡ end_of_options → ⊥) → (tail : Option NamedValues) →
         SameGiven (by_kind form kind word places taken tail next) (gone places taken (after words) (option_and_then (with_word kind word) (items_of (before words))))
     kind_word end_of_options other tail = absurd (other refl)
     kind_word (option name value) other tail =
@@ -249,5 +249,5 @@ module _ (form : Form) where
   -- The machine gives exactly what the grammar says, where no name is that of two places or of a place and an option.
   pub machine_same : each_once form.places ≡ true → list_any (is_among form.options) form.places ≡ false → (words : List Text) → SameGiven (machine_takes form words) (taken_of form words)
   machine_same once unlike words =
-      subst (λ (o : Option Taken). SameGiven (machine_takes form words) o) (gone_all words)
+      subst (λ (o : Option NamedValues). SameGiven (machine_takes form words) o) (gone_all words)
       ((both words).0 [] form.places [] (record { whole = refl; held = refl; free = none_held form.places; once = once; unlike = unlike }))

@@ -3,7 +3,7 @@ use Rattle.std.proofs.Common.{◌≡◌, ℕ, ◌≤◌, Bool, true, false, cond
 use Rattle.std.specs.Prelude.{nat_le}
 use Rattle.std.specs.Option.{option_and_then}
 use Rattle.std.proofs.lemmas.Bool.{leb-true}
-use Rattle.pn_text.specs.Numbers.{at_most, number_of}
+use Rattle.pn_text.specs.Numbers.{at_most, small_number}
 use Rattle.command_words.specs.Grammar.{Text}
 
 some_of : (b : Bool) (m n : ℕ) → cond b (Some m) None ≡ Some n → (b ≡ true) × (m ≡ n)
@@ -22,5 +22,5 @@ either_is : (b : Bool) (o : Option ℕ) (n : ℕ) → cond b o None ≡ Some n �
 either_is true o n e = e
 either_is false o n e = absurd (cc)
 
-pub number_is_at_most : (text : Text) (most n : ℕ) → number_of text most ≡ Some n → n ≤ most
+pub number_is_at_most : (text : Text) (most n : ℕ) → small_number text most ≡ Some n → n ≤ most
 number_is_at_most text most n e = at_most_is _ most n (either_is _ _ n e)

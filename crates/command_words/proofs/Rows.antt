@@ -15,7 +15,7 @@ use Rattle.clap.specs.Faults.{use_fault, repeat_fault, default_fault, defaults_f
 use Rattle.clap.specs.declared.builder.value_parser.Reading.{Reading}
 use Rattle.clap.specs.declared.parser.matches.ValueSource.TheVariants.{CommandLine}
 use Rattle.command_words.specs.Apps.{place_arg, option_arg}
-use Rattle.command_words.specs.Grammar.{Text, Form, Taken}
+use Rattle.command_words.specs.Grammar.{Text, Form, NamedValues}
 use Rattle.command_words.proofs.Machine.{has}
 
 -- ---- the rules of a command's positional words and options
@@ -41,11 +41,11 @@ text_reading = reading_by (option_rule [])
 abbrev pub row : Text × Text → Row
 row t = record { id = t.0; values = t.1 ∷ []; count = None; source = Some CommandLine; reading = text_reading }
 
-pub has_row-row : (id : Text) (taken : Taken) → has_row id (map row taken) ≡ has id taken
+pub has_row-row : (id : Text) (taken : NamedValues) → has_row id (map row taken) ≡ has id taken
 has_row-row id [] = refl
 has_row-row id (t ∷ ts) = ap (λ b. bytes_eq t.0 id || b) (has_row-row id ts)
 
-pub is_given-row : (id : Text) (taken : Taken) → is_given id (map row taken) ≡ has id taken
+pub is_given-row : (id : Text) (taken : NamedValues) → is_given id (map row taken) ≡ has id taken
 is_given-row id [] = refl
 is_given-row id (t ∷ ts) = go (is_given-row id ts) (bytes_eq t.0 id)
   where
@@ -62,7 +62,7 @@ absent id change missing (r ∷ rs) e = go (absent id change missing rs) (bytes_
     go h false f = ap (λ xs. r ∷ xs) (h f)
 
 -- a first value of a name is the last row
-pub with_row : (t : Text × Text) (taken : Taken) → has t.0 taken ≡ false →
+pub with_row : (t : Text × Text) (taken : NamedValues) → has t.0 taken ≡ false →
     with_values t.0 text_reading CommandLine (t.1 ∷ []) (without t.0 (map row taken)) ≡ map row (taken ++ t ∷ [])
 with_row t taken e =
     let none : has_row t.0 (map row taken) ≡ false = has_row-row t.0 taken ∙ e in
@@ -99,7 +99,7 @@ pub record Fits (form : Form) (rules : List Rule) : Type 0 where
   pub id : (text o : Text) → find (λ o. bytes_eq o text) form.options ≡ Some o → arg_by_id rules o ≡ Some (option_rule o)
   pub short : (c : ℕ) → arg_by_short rules c ≡ None
   pub defaults : NoDefaults rules
-  pub required : (taken : Taken) → list_any (λ (a : Rule). a.required && not (is_given a.id (map row taken))) rules ≡ not (list_all (λ place. has place taken) form.places)
+  pub required : (taken : NamedValues) → list_any (λ (a : Rule). a.required && not (is_given a.id (map row taken))) rules ≡ not (list_all (λ place. has place taken) form.places)
 
 -- no default is given
 module _ (a : Rule) (none : a.defaults ≡ []) where

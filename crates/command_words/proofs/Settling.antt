@@ -13,7 +13,7 @@ use Rattle.clap.specs.Kinds.{Kinds, or_else, check_kinds}
 use Rattle.clap.specs.Faults.{use_fault, settle_fault, positional_fault, turn_fault, walk_fault, defaults_fault, check_fault}
 use Rattle.clap.specs.declared.error.kind.ErrorKind.{ErrorKind}
 use Rattle.clap.specs.declared.error.kind.ErrorKind.TheVariants as kind
-use Rattle.command_words.specs.Grammar.{Text, Form, Taken}
+use Rattle.command_words.specs.Grammar.{Text, Form, NamedValues}
 use Rattle.command_words.proofs.Machine.{has, ended, behind}
 use Rattle.command_words.proofs.Rows.{row, place_rule, option_rule, PlacesFit, Fits, IsSingle, single_place, single_option, has_row-row, with_row, no_defaults_fault, no_defaults}
 
@@ -30,33 +30,33 @@ abbrev pending_of : Option Use → Option (Text × List Text)
 pending_of None = None
 pending_of (Some t) = Some (t.0, t.1 ∷ [])
 
-abbrev pub together : Taken → Option Use → Taken
+abbrev pub together : NamedValues → Option Use → NamedValues
 together taken None = taken
 together taken (Some t) = taken ++ t ∷ []
 
-abbrev pub twice : Taken → Option Use → Bool
+abbrev pub twice : NamedValues → Option Use → Bool
 twice taken None = false
 twice taken (Some t) = has t.0 taken
 
-abbrev pub held_at : Taken → Option Use → Held
+abbrev pub held_at : NamedValues → Option Use → Held
 held_at taken p = record { rows = map row taken; pending = pending_of p; skip = 0 }
 
-abbrev pub idle_at : Taken → Option Use → ℕ → Bool → Walk
+abbrev pub idle_at : NamedValues → Option Use → ℕ → Bool → Walk
 idle_at taken p i behind = record { held = held_at taken p; waiting = idle; position = i; is_trailing = behind; stopped = None }
 
-abbrev pub awaiting : Taken → Text → Held
+abbrev pub awaiting : NamedValues → Text → Held
 awaiting taken name = record { rows = map row taken; pending = Some (name, []); skip = 0 }
 
-abbrev pub waiting_at : Taken → Text → ℕ → Bool → Walk
+abbrev pub waiting_at : NamedValues → Text → ℕ → Bool → Walk
 waiting_at taken name i behind = record { held = awaiting taken name; waiting = option name; position = i; is_trailing = behind; stopped = None }
 
 -- ---- what clap says against what the grammar says
 
-abbrev pub Agrees : Option Taken → Kinds → List Row → Type 0
+abbrev pub Agrees : Option NamedValues → Kinds → List Row → Type 0
 Agrees None kinds rows = kinds ≡ [] → ⊥
 Agrees (Some taken) kinds rows = (kinds ≡ []) × (rows ≡ map row taken)
 
-agrees : (r s : Option Taken) (k l : Kinds) (x y : List Row) → r ≡ s → k ≡ l → x ≡ y → Agrees s l y → Agrees r k x
+agrees : (r s : Option NamedValues) (k l : Kinds) (x y : List Row) → r ≡ s → k ≡ l → x ≡ y → Agrees s l y → Agrees r k x
 agrees r s k l x y e f g h = subst (λ r. Agrees r k x) (sym e) (subst (λ k. Agrees s k x) (sym f) (subst (λ x. Agrees s l x) (sym g) h))
 
 pub some_fault : (k : ErrorKind) (ks rest : Kinds) (a : Kinds) → a ≡ k ∷ ks → or_else a rest ≡ [] → ⊥
@@ -66,7 +66,7 @@ pub cond_and : {A : Type 0} (b : Bool) (x y : A) → cond (b && false) x y ≡ y
 cond_and true x y = refl
 cond_and false x y = refl
 
-pub none_both : (b : Bool) (n : Option Taken) → cond b n n ≡ n
+pub none_both : (b : Bool) (n : Option NamedValues) → cond b n n ≡ n
 none_both true n = refl
 none_both false n = refl
 
@@ -103,7 +103,7 @@ module _ (name : Text) (form : Form) (rules : List Rule) (fits : Fits form rules
   total_end w = refl
 
   -- one more word that is no fault, and one that is
-  pub goes : (r : Option Taken) (w v : Walk) (word : Text) (words : List Text) → turn_fault shape [] w word ≡ [] → walked rules [] w word ≡ v →
+  pub goes : (r : Option NamedValues) (w v : Walk) (word : Text) (words : List Text) → turn_fault shape [] w word ≡ [] → walked rules [] w word ≡ v →
       Agrees r (total v words) (end_rows v words) → Agrees r (total w (word ∷ words)) (end_rows w (word ∷ words))
   goes r w v word words fine step h =
       agrees r r _ (total v words) _ (end_rows v words) refl
@@ -122,7 +122,7 @@ module _ (name : Text) (form : Form) (rules : List Rule) (fits : Fits form rules
   KnownUse None = Unit {0}
   KnownUse (Some t) = Known t.0
 
-  settle_is : (taken : Taken) (t : Use) → Known t.0 → settle_fault rules false (held_at taken (Some t)) ≡ cond (has t.0 taken && true) (kind.ArgumentConflict ∷ []) []
+  settle_is : (taken : NamedValues) (t : Use) → Known t.0 → settle_fault rules false (held_at taken (Some t)) ≡ cond (has t.0 taken && true) (kind.ArgumentConflict ∷ []) []
   settle_is taken t k =
       ap (λ (o : Option Rule). option_map_or (λ a. use_fault false a (t.1 ∷ []) (map row taken)) o []) k.1
       ∙ k.2.fault t.1 (map row taken)
@@ -134,25 +134,25 @@ module _ (name : Text) (form : Form) (rules : List Rule) (fits : Fits form rules
       go true false e = absurd (cc)
       go false true e = absurd (cc)
 
-  pub settle_twice : (taken : Taken) (p : Option Use) → KnownUse p → twice taken p ≡ true → settle_fault rules false (held_at taken p) ≡ kind.ArgumentConflict ∷ []
+  pub settle_twice : (taken : NamedValues) (p : Option Use) → KnownUse p → twice taken p ≡ true → settle_fault rules false (held_at taken p) ≡ kind.ArgumentConflict ∷ []
   settle_twice taken None k e = absurd (cc)
   settle_twice taken (Some t) k e = settle_is taken t k ∙ ap (λ b. cond (b && true) (kind.ArgumentConflict ∷ []) []) e
 
-  pub settle_once : (taken : Taken) (p : Option Use) → KnownUse p → twice taken p ≡ false → settle_fault rules false (held_at taken p) ≡ []
+  pub settle_once : (taken : NamedValues) (p : Option Use) → KnownUse p → twice taken p ≡ false → settle_fault rules false (held_at taken p) ≡ []
   settle_once taken None k e = refl
   settle_once taken (Some t) k e = settle_is taken t k ∙ ap (λ b. cond (b && true) (kind.ArgumentConflict ∷ []) []) e
 
-  pub settle_rows : (taken : Taken) (p : Option Use) → KnownUse p → twice taken p ≡ false → settled_rows rules (pending_of p) (map row taken) ≡ map row (together taken p)
+  pub settle_rows : (taken : NamedValues) (p : Option Use) → KnownUse p → twice taken p ≡ false → settled_rows rules (pending_of p) (map row taken) ≡ map row (together taken p)
   settle_rows taken None k e = refl
   settle_rows taken (Some t) k e =
       ap (λ (o : Option Rule). used_by_id o (t.1 ∷ []) (map row taken)) k.1 ∙ k.2.gives t.1 (map row taken) ∙ with_row t taken e
 
   -- ---- the end
 
-  check_is : (taken : Taken) → check_fault shape (map row taken) false ≡ check_kinds false false (not (list_all (λ place. has place taken) form.places))
+  check_is : (taken : NamedValues) → check_fault shape (map row taken) false ≡ check_kinds false false (not (list_all (λ place. has place taken) form.places))
   check_is taken = ap (λ b. check_kinds false false b) (fits.required taken)
 
-  end_kinds : (h : Held) (taken : Taken) → settle_fault rules false h ≡ [] → finished rules h ≡ map row taken →
+  end_kinds : (h : Held) (taken : NamedValues) → settle_fault rules false h ≡ [] → finished rules h ≡ map row taken →
       tail h ≡ check_kinds false false (not (list_all (λ place. has place taken) form.places))
   end_kinds h taken settles rows =
       ap (λ (a : Kinds). or_else a (or_else (defaults_fault (settled rules h).rows rules) (check_fault shape (finished rules h) false))) settles
@@ -160,21 +160,21 @@ module _ (name : Text) (form : Form) (rules : List Rule) (fits : Fits form rules
       ∙ ap (λ (rs : List Row). check_fault shape rs false) rows
       ∙ check_is taken
 
-  end_ends : (b : Bool) (taken : Taken) → Agrees (cond b (Some taken) None) (check_kinds false false (not b)) (map row taken)
+  end_ends : (b : Bool) (taken : NamedValues) → Agrees (cond b (Some taken) None) (check_kinds false false (not b)) (map row taken)
   end_ends true taken = (refl, refl)
   end_ends false taken = λ x. cc
 
-  end_rows_are : (taken : Taken) (p : Option Use) → KnownUse p → twice taken p ≡ false → finished rules (held_at taken p) ≡ map row (together taken p)
+  end_rows_are : (taken : NamedValues) (p : Option Use) → KnownUse p → twice taken p ≡ false → finished rules (held_at taken p) ≡ map row (together taken p)
   end_rows_are taken p k e = no_defaults rules fits.defaults (settled_rows rules (pending_of p) (map row taken)) ∙ settle_rows taken p k e
 
-  end_once : (taken : Taken) (p : Option Use) → KnownUse p → twice taken p ≡ false → Agrees (ended form (together taken p)) (tail (held_at taken p)) (finished rules (held_at taken p))
+  end_once : (taken : NamedValues) (p : Option Use) → KnownUse p → twice taken p ≡ false → Agrees (ended form (together taken p)) (tail (held_at taken p)) (finished rules (held_at taken p))
   end_once taken p k e =
       agrees (ended form (together taken p)) (ended form (together taken p)) (tail (held_at taken p)) (check_kinds false false (not (list_all (λ place. has place (together taken p)) form.places)))
       (finished rules (held_at taken p)) (map row (together taken p)) refl
       (end_kinds (held_at taken p) (together taken p) (settle_once taken p k e) (end_rows_are taken p k e)) (end_rows_are taken p k e)
       (end_ends (list_all (λ place. has place (together taken p)) form.places) (together taken p))
 
-  pub end_at : (taken : Taken) (p : Option Use) (i : ℕ) (trailing : Bool) → KnownUse p →
+  pub end_at : (taken : NamedValues) (p : Option Use) (i : ℕ) (trailing : Bool) → KnownUse p →
       Agrees (cond (twice taken p) None (ended form (together taken p))) (total (idle_at taken p i trailing) []) (end_rows (idle_at taken p i trailing) [])
   end_at taken p i trailing k = subst (λ (x : Kinds). Agrees (cond (twice taken p) None (ended form (together taken p))) x (finished rules (held_at taken p))) (sym (total_end (idle_at taken p i trailing))) (go (twice taken p) refl)
     where
@@ -184,16 +184,16 @@ module _ (name : Text) (form : Form) (rules : List Rule) (fits : Fits form rules
 
   -- ---- a word that takes a place
 
-  abbrev placed_fault : Taken → Option Use → ℕ → Kinds
+  abbrev placed_fault : NamedValues → Option Use → ℕ → Kinds
   placed_fault taken p i = option_map_or (λ a. positional_fault rules false a (held_at taken p)) (arg_by_index rules i) (kind.UnknownArgument ∷ [])
 
-  place_fault : (taken : Taken) (p : Option Use) (i : ℕ) (place : Text) → arg_by_index rules i ≡ Some (place_rule i place) →
+  place_fault : (taken : NamedValues) (p : Option Use) (i : ℕ) (place : Text) → arg_by_index rules i ≡ Some (place_rule i place) →
       placed_fault taken p i ≡ settle_fault rules false (held_at taken p)
   place_fault taken p i place e =
       ap (λ (o : Option Rule). option_map_or (λ a. positional_fault rules false a (held_at taken p)) o (kind.UnknownArgument ∷ [])) e
       ∙ cond_and (is_pending (place_rule i place) (pending_of p)) [] (settle_fault rules false (held_at taken p))
 
-  placed : (taken : Taken) (p : Option Use) (i : ℕ) (trailing : Bool) (place word : Text) → arg_by_index rules i ≡ Some (place_rule i place) → min (i + 1) usize_max ≡ i + 1 →
+  placed : (taken : NamedValues) (p : Option Use) (i : ℕ) (trailing : Bool) (place word : Text) → arg_by_index rules i ≡ Some (place_rule i place) → min (i + 1) usize_max ≡ i + 1 →
       KnownUse p → twice taken p ≡ false →
       to_positional rules (arg_by_index rules i) word (idle_at taken p i trailing) (held_at taken p) ≡ idle_at (together taken p) (Some (place, word)) (i + 1) trailing
   placed taken p i trailing place word e bound k once =
@@ -203,7 +203,7 @@ module _ (name : Text) (form : Form) (rules : List Rule) (fits : Fits form rules
       ∙ ap (λ (n : ℕ). record { held = held_at (together taken p) (Some (place, word)); waiting = idle; position = n; is_trailing = trailing || false; stopped = None }) bound
       ∙ ap (λ (b : Bool). record { held = held_at (together taken p) (Some (place, word)); waiting = idle; position = i + 1; is_trailing = b; stopped = None }) (or-false trailing)
 
-  pub place_step : (taken : Taken) (p : Option Use) (i : ℕ) (trailing : Bool) (place word : Text) (words : List Text) (rest : Option Taken) →
+  pub place_step : (taken : NamedValues) (p : Option Use) (i : ℕ) (trailing : Bool) (place word : Text) (words : List Text) (rest : Option NamedValues) →
       arg_by_index rules i ≡ Some (place_rule i place) → min (i + 1) usize_max ≡ i + 1 → KnownUse p →
       turn_fault shape [] (idle_at taken p i trailing) word ≡ placed_fault taken p i →
       walked rules [] (idle_at taken p i trailing) word ≡ to_positional rules (arg_by_index rules i) word (idle_at taken p i trailing) (held_at taken p) →
@@ -217,11 +217,11 @@ module _ (name : Text) (form : Form) (rules : List Rule) (fits : Fits form rules
           goes (cond (has place (together taken p)) None rest) (idle_at taken p i trailing) (idle_at (together taken p) (Some (place, word)) (i + 1) trailing) word words
           (turn ∙ place_fault taken p i place e ∙ settle_once taken p k f) (step ∙ placed taken p i trailing place word e bound k f) h
 
-  pub no_place : (taken : Taken) (p : Option Use) (i : ℕ) (trailing : Bool) (word : Text) (words : List Text) → arg_by_index rules i ≡ None →
+  pub no_place : (taken : NamedValues) (p : Option Use) (i : ℕ) (trailing : Bool) (word : Text) (words : List Text) → arg_by_index rules i ≡ None →
       turn_fault shape [] (idle_at taken p i trailing) word ≡ placed_fault taken p i →
       Agrees (cond (twice taken p) None None) (total (idle_at taken p i trailing) (word ∷ words)) (end_rows (idle_at taken p i trailing) (word ∷ words))
   no_place taken p i trailing word words e turn =
-      subst (λ (r : Option Taken). Agrees r (total (idle_at taken p i trailing) (word ∷ words)) (end_rows (idle_at taken p i trailing) (word ∷ words))) (sym (none_both (twice taken p) None))
+      subst (λ (r : Option NamedValues). Agrees r (total (idle_at taken p i trailing) (word ∷ words)) (end_rows (idle_at taken p i trailing) (word ∷ words))) (sym (none_both (twice taken p) None))
       (stops (idle_at taken p i trailing) word words kind.UnknownArgument [] (turn ∙ ap (λ (o : Option Rule). option_map_or (λ a. positional_fault rules false a (held_at taken p)) o (kind.UnknownArgument ∷ [])) e))
 
   pub known_place : (i : ℕ) (place : Text) → arg_by_id rules place ≡ Some (place_rule i place) → Known place
@@ -232,7 +232,7 @@ module _ (name : Text) (form : Form) (rules : List Rule) (fits : Fits form rules
 
   -- ---- after `--`
 
-  pub behind_agrees : (words : List Text) (places : List Text) (taken : Taken) (p : Option Use) (i : ℕ) → PlacesFit rules i places → KnownUse p →
+  pub behind_agrees : (words : List Text) (places : List Text) (taken : NamedValues) (p : Option Use) (i : ℕ) → PlacesFit rules i places → KnownUse p →
       Agrees (cond (twice taken p) None (behind form places (together taken p) words)) (total (idle_at taken p i true) words) (end_rows (idle_at taken p i true) words)
   unfolding walked
   behind_agrees [] places taken p i fit k = end_at taken p i true k

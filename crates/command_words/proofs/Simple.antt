@@ -9,7 +9,7 @@ use Rattle.clap.specs.declared.error.Error.{Error}
 use Rattle.clap.specs.declared.error.kind.ErrorKind.TheVariants as kind
 use Rattle.clap.specs.declared.parser.matches.ArgMatches.{ArgMatches}
 use Rattle.clap.proofs.WalkLemmas.{first_value-rows}
-use Rattle.command_words.specs.Asked.{Holds}
+use Rattle.command_words.specs.Asked.{AreMatches}
 use Rattle.command_words.specs.Apps.{app_for}
 use Rattle.command_words.specs.Grammar.{taken_of}
 use Rattle.command_words.proofs.Machine.{machine_takes}
@@ -44,7 +44,7 @@ module _ {Z : Type 0} (name : CommandName) (words : List (String Z)) (app : App)
   free = ap is_simple_and_free same ∙ is_free_for name
 
   pub holds_from : (m : ArgMatches) → (is_simple_and_free app ≡ true → fault_of app (map string_bytes words) ≡ []) → HasMatchesOf app (map string_bytes words) m →
-      Holds (form_of name) (drop 1 (map string_bytes words)) m
+      AreMatches (form_of name) (drop 1 (map string_bytes words)) m
   holds_from m kinds matches =
       let t = taken_from _ _ _ agrees_words (ap (λ (a : App). fault_of a (map string_bytes words)) (sym same) ∙ kinds free) in
       let rows = (matches (ap is_simple same ∙ is_simple_for name)).0 ∙ ap (λ (a : App). matches_of a (map string_bytes words)) same ∙ t.2 in

@@ -8,7 +8,7 @@ use Rattle.std.proofs.Math.ListN.{get_or-append}
 use Rattle.std.proofs.lemmas.Bool.{lt-ltb}
 use Rattle.std.proofs.lemmas.List.{get_or-append-add, get_or-set_same, get_or-set_other}
 use Rattle.std.proofs.lemmas.List.Quantifiers.{position-Some}
-use Rattle.command_words.specs.Grammar.{Text, Form, Taken, given_in, is_among}
+use Rattle.command_words.specs.Grammar.{Text, Form, NamedValues, given_in, is_among}
 use Rattle.command_words.specs.Walks.{position_of, slot_of, Values, no_values, value_at, value_of}
 use Rattle.command_words.proofs.ValuesTaken.{same_bytes, eq_bytes, bytes_sym, first_of, given_both}
 
@@ -48,7 +48,7 @@ abbrev pub Known : Form → Text → Type 0
 Known form name = (slot : ℕ) × (slot_of form name ≡ Some slot)
 
 -- the values are those that were taken
-abbrev pub Agree : Form → Values → Taken → Type 0
+abbrev pub Agree : Form → Values → NamedValues → Type 0
 Agree form values taken = (name : Text) → value_of form values name ≡ given_in taken name
 
 -- there is room for a value of each name
@@ -100,7 +100,7 @@ module _ (form : Form) (few : IsFew form) where
 
   -- ---- values
 
-  given_more : (n : Text) (taken : Taken) (name value : Text) → given_in (taken ++ (name, value) ∷ []) n ≡ first_of (given_in taken n) (cond (bytes_eq name n) (Some value) None)
+  given_more : (n : Text) (taken : NamedValues) (name value : Text) → given_in (taken ++ (name, value) ∷ []) n ≡ first_of (given_in taken n) (cond (bytes_eq name n) (Some value) None)
   given_more n taken name value = given_both n taken ((name, value) ∷ []) ∙ ap (first_of (given_in taken n)) (by (bytes_eq name n))
     where
       by : (b : Bool) → option_map (λ (t : Text × Text). t.1) (cond b (Some (name, value)) None) ≡ cond b (Some value) None
@@ -120,7 +120,7 @@ module _ (form : Form) (few : IsFew form) where
   other_value values slot v None h = refl
   other_value values slot v (Some j) h = get_or-set_other values slot j v None (h j refl)
 
-  pub put_agrees : (values : Values) (taken : Taken) (name value : Text) (slot : ℕ) → length values ≡ 16 → slot_of form name ≡ Some slot → Agree form values taken → is_some (given_in taken name) ≡ false → Agree form (slice_set values slot (Some value)) (taken ++ (name, value) ∷ [])
+  pub put_agrees : (values : Values) (taken : NamedValues) (name value : Text) (slot : ℕ) → length values ≡ 16 → slot_of form name ≡ Some slot → Agree form values taken → is_some (given_in taken name) ≡ false → Agree form (slice_set values slot (Some value)) (taken ++ (name, value) ∷ [])
   put_agrees values taken name value slot len e agree free n = by (bytes_eq name n) refl ∙ sym (given_more n taken name value)
     where
       at : Slot name slot

@@ -4,7 +4,7 @@ use Rattle.std.specs.Prelude.{◌⊎◌, find, option_map}
 use Rattle.std.specs.List.{list_any, zip}
 use Rattle.std.specs.Str.{bytes_eq}
 use Rattle.std.proofs.lemmas.Slice.Eq.{bytes_eq-Decides}
-use Rattle.command_words.specs.Grammar.{Text, Taken, given_in, is_among, is_named}
+use Rattle.command_words.specs.Grammar.{Text, NamedValues, given_in, is_among, is_named}
 use Rattle.command_words.proofs.Machine.{has}
 
 -- ---- names
@@ -39,7 +39,7 @@ abbrev pub first_of : Option Text → Option Text → Option Text
 first_of None other = other
 first_of (Some v) other = Some v
 
-pub given_both : (n : Text) (xs ys : Taken) → given_in (xs ++ ys) n ≡ first_of (given_in xs n) (given_in ys n)
+pub given_both : (n : Text) (xs ys : NamedValues) → given_in (xs ++ ys) n ≡ first_of (given_in xs n) (given_in ys n)
 given_both n [] ys = refl
 given_both n (t ∷ ts) ys = by (is_named n t) (given_both n ts ys)
   where
@@ -48,7 +48,7 @@ given_both n (t ∷ ts) ys = by (is_named n t) (given_both n ts ys)
     by true e = refl
     by false e = e
 
-pub has_is : (name : Text) (taken : Taken) → has name taken ≡ is_some (given_in taken name)
+pub has_is : (name : Text) (taken : NamedValues) → has name taken ≡ is_some (given_in taken name)
 has_is name [] = refl
 has_is name (t ∷ ts) = by (is_named name t) (has_is name ts)
   where
@@ -74,7 +74,7 @@ moved None (Some v) (Some w) d (inl e) = absurd (cc)
 moved None (Some v) (Some w) d (inr e) = absurd (cc)
 
 -- a name with its value may stand before or after names that are unlike it
-pub given_moved : (xs ys zs : Taken) (name value : Text) → given_in ys name ≡ None → (n : Text) → given_in ((xs ++ (name, value) ∷ []) ++ (ys ++ zs)) n ≡ given_in (xs ++ (ys ++ (name, value) ∷ zs)) n
+pub given_moved : (xs ys zs : NamedValues) (name value : Text) → given_in ys name ≡ None → (n : Text) → given_in ((xs ++ (name, value) ∷ []) ++ (ys ++ zs)) n ≡ given_in (xs ++ (ys ++ (name, value) ∷ zs)) n
 given_moved xs ys zs name value none n =
     given_both n (xs ++ (name, value) ∷ []) (ys ++ zs)
     ∙ ap (λ o. first_of o (given_in (ys ++ zs) n)) (given_both n xs ((name, value) ∷ []))
@@ -91,20 +91,20 @@ given_moved xs ys zs name value none n =
 -- ---- results that give the same
 
 -- neither, or both with the same value for each name
-abbrev pub SameGiven : Option Taken → Option Taken → Type 0
+abbrev pub SameGiven : Option NamedValues → Option NamedValues → Type 0
 SameGiven None None = Unit {0}
 SameGiven None (Some t) = ⊥
 SameGiven (Some s) None = ⊥
 SameGiven (Some s) (Some t) = (name : Text) → given_in s name ≡ given_in t name
 
-pub same_self : (o : Option Taken) → SameGiven o o
+pub same_self : (o : Option NamedValues) → SameGiven o o
 same_self None = tt
 same_self (Some t) = λ name. refl
 
-pub same_equal : (a b : Option Taken) → a ≡ b → SameGiven a b
+pub same_equal : (a b : Option NamedValues) → a ≡ b → SameGiven a b
 same_equal a b e = subst (λ o. SameGiven a o) e (same_self a)
 
-pub same_then : (a b c : Option Taken) → SameGiven a b → SameGiven b c → SameGiven a c
+pub same_then : (a b c : Option NamedValues) → SameGiven a b → SameGiven b c → SameGiven a c
 same_then None None c h k = k
 same_then None (Some s) c h k = absurd h
 same_then (Some r) None c h k = absurd h
@@ -112,12 +112,12 @@ same_then (Some r) (Some s) None h k = k
 same_then (Some r) (Some s) (Some t) h k = λ name. h name ∙ k name
 
 -- both give, and the same
-pub same_some : (a b : Option Taken) (t : Taken) → a ≡ Some t → SameGiven a b → (u : Taken) × (b ≡ Some u) × ((name : Text) → given_in t name ≡ given_in u name)
+pub same_some : (a b : Option NamedValues) (t : NamedValues) → a ≡ Some t → SameGiven a b → (u : NamedValues) × (b ≡ Some u) × ((name : Text) → given_in t name ≡ given_in u name)
 same_some None b t e h = absurd (cc)
 same_some (Some s) None t e h = absurd h
-same_some (Some s) (Some u) t e h = let same : s ≡ t = cc in (u, refl, λ name. ap (λ (v : Taken). given_in v name) (sym same) ∙ h name)
+same_some (Some s) (Some u) t e h = let same : s ≡ t = cc in (u, refl, λ name. ap (λ (v : NamedValues). given_in v name) (sym same) ∙ h name)
 
-pub same_none : (a b : Option Taken) → a ≡ None → SameGiven a b → b ≡ None
+pub same_none : (a b : Option NamedValues) → a ≡ None → SameGiven a b → b ≡ None
 same_none None None e h = refl
 same_none None (Some u) e h = absurd h
 same_none (Some s) b e h = absurd (cc)

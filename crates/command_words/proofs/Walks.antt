@@ -12,7 +12,7 @@ use Rattle.clap.specs.declared.error.kind.ErrorKind.{ErrorKind}
 use Rattle.clap.specs.declared.error.kind.ErrorKind.TheVariants as kind
 use Rattle.clap.specs.declared.parser.matches.ValueSource.TheVariants.{CommandLine}
 use Rattle.command_words.specs.Grammar as grammar
-use Rattle.command_words.specs.Grammar.{Text, Form, Taken, kind_of}
+use Rattle.command_words.specs.Grammar.{Text, Form, NamedValues, kind_of}
 use Rattle.command_words.proofs.Machine.{has, behind, by_kind, by_option, by_value, option_named, read, machine_takes}
 use Rattle.command_words.proofs.WordKinds.{Word, dashes, simple, long, short, word_is}
 use Rattle.command_words.proofs.Rows.{row, place_rule, option_rule, text_reading, PlacesFit, Fits, single_option, has_row-row, with_row}
@@ -35,29 +35,29 @@ module _ (name : Text) (form : Form) (rules : List Rule) (fits : Fits form rules
   -- ---- before `--`
 
   abbrev IdleAgrees : List Text → Type 0
-  IdleAgrees words = (places : List Text) (taken : Taken) (p : Option Use) (i : ℕ) → PlacesFit rules i places → KnownUse p →
+  IdleAgrees words = (places : List Text) (taken : NamedValues) (p : Option Use) (i : ℕ) → PlacesFit rules i places → KnownUse p →
       Agrees (cond (twice taken p) None (read form places (together taken p) None words)) (total (idle_at taken p i false) words) (end_rows (idle_at taken p i false) words)
 
   abbrev WaitingAgrees : List Text → Type 0
-  WaitingAgrees words = (places : List Text) (taken : Taken) (o : Text) (i : ℕ) → PlacesFit rules i places → arg_by_id rules o ≡ Some (option_rule o) →
+  WaitingAgrees words = (places : List Text) (taken : NamedValues) (o : Text) (i : ℕ) → PlacesFit rules i places → arg_by_id rules o ≡ Some (option_rule o) →
       Agrees (read form places taken (Some o) words) (total (waiting_at taken o i false) words) (end_rows (waiting_at taken o i false) words)
 
   -- what the grammar makes of a word of a kind
-  abbrev by_word : List Text → Taken → Text → List Text → grammar.Kind → Option Taken
+  abbrev by_word : List Text → NamedValues → Text → List Text → grammar.Kind → Option NamedValues
   by_word places taken word words kind = by_kind form kind word places taken (behind form places taken words) (λ ps t awaiting. read form ps t awaiting words)
 
-  by_its_kind : (places : List Text) (taken : Taken) (p : Option Use) (word : Text) (words : List Text) (kind : grammar.Kind) (k : Kinds) (rows : List Row) → kind_of word ≡ kind →
+  by_its_kind : (places : List Text) (taken : NamedValues) (p : Option Use) (word : Text) (words : List Text) (kind : grammar.Kind) (k : Kinds) (rows : List Row) → kind_of word ≡ kind →
       Agrees (cond (twice taken p) None (by_word places (together taken p) word words kind)) k rows → Agrees (cond (twice taken p) None (read form places (together taken p) None (word ∷ words))) k rows
   by_its_kind places taken p word words kind k rows e h = subst (λ (x : grammar.Kind). Agrees (cond (twice taken p) None (by_word places (together taken p) word words x)) k rows) (sym e) h
 
-  never : (taken : Taken) (p : Option Use) (i : ℕ) (word : Text) (words : List Text) → turn_fault shape [] (idle_at taken p i false) word ≡ kind.UnknownArgument ∷ [] →
+  never : (taken : NamedValues) (p : Option Use) (i : ℕ) (word : Text) (words : List Text) → turn_fault shape [] (idle_at taken p i false) word ≡ kind.UnknownArgument ∷ [] →
       Agrees (cond (twice taken p) None None) (total (idle_at taken p i false) (word ∷ words)) (end_rows (idle_at taken p i false) (word ∷ words))
   never taken p i word words turn =
-      subst (λ (r : Option Taken). Agrees r (total (idle_at taken p i false) (word ∷ words)) (end_rows (idle_at taken p i false) (word ∷ words))) (sym (none_both (twice taken p) None))
+      subst (λ (r : Option NamedValues). Agrees r (total (idle_at taken p i false) (word ∷ words)) (end_rows (idle_at taken p i false) (word ∷ words))) (sym (none_both (twice taken p) None))
       (settling.stops name form rules fits (idle_at taken p i false) word words kind.UnknownArgument [] turn)
 
   -- an option whose value is attached
-  attached : (taken : Taken) (p : Option Use) (i : ℕ) (o v word : Text) (words : List Text) (rest : Option Taken) → KnownUse p →
+  attached : (taken : NamedValues) (p : Option Use) (i : ℕ) (o v word : Text) (words : List Text) (rest : Option NamedValues) → KnownUse p →
       turn_fault shape [] (idle_at taken p i false) word ≡ or_else (or_else (settle_fault rules false (held_at taken p)) (use_fault false (option_rule o) (v ∷ []) (settled rules (held_at taken p)).rows)) [] →
       walked rules [] (idle_at taken p i false) word ≡ record { held = record { rows = used (option_rule o) (v ∷ []) (settled rules (held_at taken p)).rows; pending = None; skip = 0 }; waiting = idle; position = i; is_trailing = false; stopped = None } →
       Agrees rest (total (idle_at (together taken p ++ (o, v) ∷ []) None i false) words) (end_rows (idle_at (together taken p ++ (o, v) ∷ []) None i false) words) →
@@ -87,7 +87,7 @@ module _ (name : Text) (form : Form) (rules : List Rule) (fits : Fits form rules
           h
 
   -- an option that awaits its value
-  awaits : (taken : Taken) (p : Option Use) (i : ℕ) (o word : Text) (words : List Text) (rest : Option Taken) → KnownUse p →
+  awaits : (taken : NamedValues) (p : Option Use) (i : ℕ) (o word : Text) (words : List Text) (rest : Option NamedValues) → KnownUse p →
       turn_fault shape [] (idle_at taken p i false) word ≡ or_else (settle_fault rules false (held_at taken p)) [] →
       walked rules [] (idle_at taken p i false) word ≡ record { held = record { rows = (settled rules (held_at taken p)).rows; pending = Some (o, []); skip = 0 }; waiting = option o; position = i; is_trailing = false; stopped = None } →
       Agrees rest (total (waiting_at (together taken p) o i false) words) (end_rows (waiting_at (together taken p) o i false) words) →
@@ -102,7 +102,7 @@ module _ (name : Text) (form : Form) (rules : List Rule) (fits : Fits form rules
           h
 
   idle_option : (word : Text) (words : List Text) (name : Text) (val : Option Text) → kind_of word ≡ grammar.option name val → bytes_eq word (codes "--") ≡ false → long_of word ≡ Some (name, val) →
-      (found : Option Text) → option_named form.options name ≡ found → IdleAgrees words → WaitingAgrees words → (places : List Text) (taken : Taken) (p : Option Use) (i : ℕ) → PlacesFit rules i places → KnownUse p →
+      (found : Option Text) → option_named form.options name ≡ found → IdleAgrees words → WaitingAgrees words → (places : List Text) (taken : NamedValues) (p : Option Use) (i : ℕ) → PlacesFit rules i places → KnownUse p →
       Agrees (cond (twice taken p) None (by_option found val (together taken p) (λ t awaiting. read form places t awaiting words))) (total (idle_at taken p i false) (word ∷ words)) (end_rows (idle_at taken p i false) (word ∷ words))
   unfolding walked
   idle_option word words name val kd b l None e hi hw places taken p i fit k =
@@ -136,14 +136,14 @@ module _ (name : Text) (form : Form) (rules : List Rule) (fits : Fits form rules
 
   -- ---- where an option awaits its value
 
-  wanting : (taken : Taken) (o : Text) → arg_by_id rules o ≡ Some (option_rule o) → settle_fault rules false (awaiting taken o) ≡ kind.InvalidValue ∷ []
+  wanting : (taken : NamedValues) (o : Text) → arg_by_id rules o ≡ Some (option_rule o) → settle_fault rules false (awaiting taken o) ≡ kind.InvalidValue ∷ []
   wanting taken o e = ap (λ (a : Option Rule). option_map_or (λ a. use_fault false a [] (map row taken)) a []) e
 
-  wanting_end : (taken : Taken) (o : Text) (i : ℕ) (trailing : Bool) → arg_by_id rules o ≡ Some (option_rule o) → total (waiting_at taken o i trailing) [] ≡ [] → ⊥
+  wanting_end : (taken : NamedValues) (o : Text) (i : ℕ) (trailing : Bool) → arg_by_id rules o ≡ Some (option_rule o) → total (waiting_at taken o i trailing) [] ≡ [] → ⊥
   wanting_end taken o i trailing e h = some_fault kind.InvalidValue [] _ _ (wanting taken o e) (sym (settling.total_end name form rules fits (waiting_at taken o i trailing)) ∙ h)
 
   -- what the rules say where a word takes a place after an option without its value
-  wanting_fault : (places : List Text) (taken : Taken) (o : Text) (i : ℕ) → PlacesFit rules i places → arg_by_id rules o ≡ Some (option_rule o) →
+  wanting_fault : (places : List Text) (taken : NamedValues) (o : Text) (i : ℕ) → PlacesFit rules i places → arg_by_id rules o ≡ Some (option_rule o) →
       (option_map_or (λ a. positional_fault rules false a (awaiting taken o)) (arg_by_index rules i) (kind.UnknownArgument ∷ []) ≡ kind.UnknownArgument ∷ [])
       ⊎ (option_map_or (λ a. positional_fault rules false a (awaiting taken o)) (arg_by_index rules i) (kind.UnknownArgument ∷ []) ≡ kind.InvalidValue ∷ [])
   wanting_fault [] taken o i fit e = inl (ap (λ (a : Option Rule). option_map_or (λ a. positional_fault rules false a (awaiting taken o)) a (kind.UnknownArgument ∷ [])) fit)
@@ -151,7 +151,7 @@ module _ (name : Text) (form : Form) (rules : List Rule) (fits : Fits form rules
       inr (ap (λ (a : Option Rule). option_map_or (λ a. positional_fault rules false a (awaiting taken o)) a (kind.UnknownArgument ∷ [])) fit.0
       ∙ cond_and (is_pending (place_rule i place) (Some (o, []))) [] (settle_fault rules false (awaiting taken o)) ∙ wanting taken o e)
 
-  wanting_behind : (words : List Text) (places : List Text) (taken : Taken) (o : Text) (i : ℕ) → PlacesFit rules i places → arg_by_id rules o ≡ Some (option_rule o) →
+  wanting_behind : (words : List Text) (places : List Text) (taken : NamedValues) (o : Text) (i : ℕ) → PlacesFit rules i places → arg_by_id rules o ≡ Some (option_rule o) →
       total (waiting_at taken o i true) words ≡ [] → ⊥
   wanting_behind [] places taken o i fit e h = wanting_end taken o i true e h
   wanting_behind (word ∷ words) places taken o i fit e h = go (wanting_fault places taken o i fit e)
@@ -161,13 +161,13 @@ module _ (name : Text) (form : Form) (rules : List Rule) (fits : Fits form rules
       go (inl f) = settling.stops name form rules fits (waiting_at taken o i true) word words kind.UnknownArgument [] f h
       go (inr f) = settling.stops name form rules fits (waiting_at taken o i true) word words kind.InvalidValue [] f h
 
-  by_its_value : (places : List Text) (taken : Taken) (o word : Text) (words : List Text) (kind : grammar.Kind) (k : Kinds) (rows : List Row) → kind_of word ≡ kind →
+  by_its_value : (places : List Text) (taken : NamedValues) (o word : Text) (words : List Text) (kind : grammar.Kind) (k : Kinds) (rows : List Row) → kind_of word ≡ kind →
       Agrees (by_value kind o word taken (read form places (taken ++ (o, word) ∷ []) None words)) k rows → Agrees (read form places taken (Some o) (word ∷ words)) k rows
   by_its_value places taken o word words kind k rows e h =
       subst (λ (x : grammar.Kind). Agrees (by_value x o word taken (read form places (taken ++ (o, word) ∷ []) None words)) k rows) (sym e) h
 
   waiting_option : (word : Text) (name : Text) (val : Option Text) → bytes_eq word (codes "--") ≡ false → long_of word ≡ Some (name, val) →
-      (found : Option Text) → option_named form.options name ≡ found → (taken : Taken) (o : Text) (i : ℕ) → arg_by_id rules o ≡ Some (option_rule o) →
+      (found : Option Text) → option_named form.options name ≡ found → (taken : NamedValues) (o : Text) (i : ℕ) → arg_by_id rules o ≡ Some (option_rule o) →
       (x : ErrorKind) × (turn_fault shape [] (waiting_at taken o i false) word ≡ x ∷ [])
   waiting_option word name val b l None e taken o i known =
       let none : arg_by_long rules name ≡ None = fits.long name ∙ ap (option_map option_rule) e in
@@ -183,7 +183,7 @@ module _ (name : Text) (form : Form) (rules : List Rule) (fits : Fits form rules
 
   -- a word that is no flag is the value
   valued : (word : Text) (words : List Text) → bytes_eq word (codes "--") ≡ false → long_of word ≡ None → short_of word ≡ None → IdleAgrees words →
-      (places : List Text) (taken : Taken) (o : Text) (i : ℕ) → PlacesFit rules i places → arg_by_id rules o ≡ Some (option_rule o) →
+      (places : List Text) (taken : NamedValues) (o : Text) (i : ℕ) → PlacesFit rules i places → arg_by_id rules o ≡ Some (option_rule o) →
       Agrees (cond (has o taken) None (read form places (taken ++ (o, word) ∷ []) None words)) (total (waiting_at taken o i false) (word ∷ words)) (end_rows (waiting_at taken o i false) (word ∷ words))
   unfolding walked
   valued word words b l s hi places taken o i fit e =

@@ -2,7 +2,7 @@
 use Rattle.std.specs.Prelude.{◌≡◌, List, Some, option_map}
 use Rattle.clap.specs.Words.{first_value, found_of}
 use Rattle.clap.specs.declared.parser.matches.ArgMatches.{ArgMatches}
-use Rattle.command_words.specs.Grammar.{Text, Form, Given, Taken, given_in, taken_of}
+use Rattle.command_words.specs.Grammar.{Text, Form, Given, NamedValues, given_in, taken_of}
 use Rattle.command_words.specs.Requests as request
 use Rattle.command_words.specs.declared.requests.Request.{Request}
 use Rattle.command_words.specs.declared.requests.Request.TheVariants.{Run, Live, Replay, Plan, Asm, Points, Relog, Stress, Blocks, Visi, Advise, Direct}
@@ -62,7 +62,7 @@ abbrev pub given_by : ArgMatches → Given
 given_by matches name = first_value (found_of matches) name
 
 -- the matches hold what the words of a form give
-pub record Holds (form : Form) (words : List Text) (matches : ArgMatches) : Type 0 where
-  pub taken : Taken
+pub record AreMatches (form : Form) (words : List Text) (matches : ArgMatches) : Type 0 where
+  pub taken : NamedValues
   pub reads : taken_of form words ≡ Some taken
   pub given : (name : Text) → given_by matches name ≡ given_in taken name

@@ -71,8 +71,8 @@ items_of [] = Some []
 items_of (word ∷ words) = option_and_then (with_word (kind_of word) word) (items_of words)
 
 -- names with values
-abbrev pub Taken : Type 0
-Taken = List (Text × Text)
+abbrev pub NamedValues : Type 0
+NamedValues = List (Text × Text)
 
 abbrev pub word_in : Item → Option Text
 word_in (positional word) = Some word
@@ -103,11 +103,11 @@ abbrev pub fits : Form → List Text → List Text → Bool
 fits form words names = (length words == length form.places) && list_all (is_among form.options) names && each_once names
 
 -- the positional words by their names, and the options
-abbrev pub taken_by : Form → List Text → Taken → Option Taken
+abbrev pub taken_by : Form → List Text → NamedValues → Option NamedValues
 taken_by form words options = if fits form words (map (λ o. o.0) options) then Some (zip form.places words ++ options) else None
 
 -- What the words of a command give, those after the command's own. Those after a first `--` are positional.
-abbrev pub taken_of : Form → List Text → Option Taken
+abbrev pub taken_of : Form → List Text → Option NamedValues
 taken_of form words =
     option_and_then (λ items. taken_by form (filter_map word_in items ++ after_first is_separator words) (filter_map option_in items))
     (items_of (before_first is_separator words))
@@ -121,5 +121,5 @@ Given = Text → Option Text
 abbrev pub is_named : Text → Text × Text → Bool
 is_named name t = bytes_eq t.0 name
 
-abbrev pub given_in : Taken → Given
+abbrev pub given_in : NamedValues → Given
 given_in taken name = option_map (λ t. t.1) (find (is_named name) taken)

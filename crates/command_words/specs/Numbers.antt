@@ -2,12 +2,12 @@
 use Rattle.std.specs.Prelude.{ℕ, nat_le, if◌then◌else◌, Option, Some, None, codes}
 use Rattle.std.specs.Option.{option_and_then, option_map_or}
 use Rattle.pn_types.specs.declared.limits.TheConstants.{MAX_HARTS, MAX_WORKERS, MAX_BUDGET, MAX_QUANTUM, MIN_BINS, MAX_BINS, MAX_WIDTH, MAX_INSTRUMENTS}
-use Rattle.pn_text.specs.Numbers.{number_of}
+use Rattle.pn_text.specs.Numbers.{small_number}
 use Rattle.command_words.specs.Grammar.{Text, Given}
 
 -- a number of 1 to 10 digits from `least` to `most`
 abbrev pub number_between : ℕ → ℕ → Text → Option ℕ
-number_between least most text = option_and_then (λ n. if nat_le least n then Some n else None) (number_of text most)
+number_between least most text = option_and_then (λ n. if nat_le least n then Some n else None) (small_number text most)
 
 -- an option whose value is a number: its name, its range, and the number that holds where it isn't given
 pub record NumberOption : Type 0 where

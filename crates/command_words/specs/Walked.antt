@@ -12,11 +12,11 @@ use Rattle.command_words.specs.declared.word_kind.WordKind.TheVariants.{EndOfOpt
 use Rattle.command_words.specs.declared.values.Values.{Values}
 use Rattle.command_words.specs.declared.walking.Walk.{Walk}
 
-abbrev pub seen : List (Bor Text) → List Text
-seen names = map (λ n. n.now) names
+abbrev pub option_names : List (Bor Text) → List Text
+option_names names = map (λ n. n.now) names
 
 abbrev pub form_seen : Form → grammar.Form
-form_seen form = record { word = form.word.now; places = seen form.places.now; options = seen form.options.now }
+form_seen form = record { word = form.word.now; places = option_names form.places.now; options = option_names form.options.now }
 
 abbrev pub option_seen : NumberOption → numbers.NumberOption
 option_seen o = record { name = o.name.now; least = o.least; most = o.most; default = o.default }

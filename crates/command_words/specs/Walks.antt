@@ -34,8 +34,8 @@ abbrev pub put_at : Values → Option ℕ → Text → Option Values
 put_at values None value = None
 put_at values (Some slot) value = if is_some (slice_index_or values slot None) then None else Some (slice_set values slot (Some value))
 
-abbrev pub put : Form → Values → Text → Text → Option Values
-put form values name value = put_at values (slot_of form name) value
+abbrev pub with_named : Form → Values → Text → Text → Option Values
+with_named form values name value = put_at values (slot_of form name) value
 
 -- ---- the walk
 
@@ -52,15 +52,15 @@ first_step = record { values = no_values; placed = 0; awaiting = None; behind = 
 -- a word takes the next place
 abbrev pub placed_at : Form → Walk → Option Text → Text → Option Walk
 placed_at form w None word = None
-placed_at form w (Some name) word = option_map (λ values. record w { values = values; placed = w.placed + 1 }) (put form w.values name word)
+placed_at form w (Some name) word = option_map (λ values. record w { values = values; placed = w.placed + 1 }) (with_named form w.values name word)
 
-abbrev pub placed : Form → Walk → Text → Option Walk
-placed form w word = placed_at form w (slice_get form.places w.placed) word
+abbrev pub with_place : Form → Walk → Text → Option Walk
+with_place form w word = placed_at form w (slice_get form.places w.placed) word
 
 -- an option and its value, if it stands with it
 abbrev pub with_value : Form → Walk → Text → Option Text → Option Walk
 with_value form w name None = Some (record w { awaiting = Some name })
-with_value form w name (Some value) = option_map (λ values. record w { values = values }) (put form w.values name value)
+with_value form w name (Some value) = option_map (λ values. record w { values = values }) (with_named form w.values name value)
 
 abbrev pub optioned : Form → Walk → Text → Option Text → Option Walk
 optioned form w name value = if is_among form.options name then with_value form w name value else None
@@ -70,11 +70,11 @@ abbrev pub by_kind : Form → Walk → Kind → Text → Option Walk
 by_kind form w end_of_options word = Some (record w { behind = true })
 by_kind form w (option name value) word = optioned form w name value
 by_kind form w other_flag word = None
-by_kind form w plain word = placed form w word
+by_kind form w plain word = with_place form w word
 
 -- a word as the value of an option
 abbrev pub by_value : Form → Walk → Text → Kind → Text → Option Walk
-by_value form w name plain word = option_map (λ values. record w { values = values; awaiting = None }) (put form w.values name word)
+by_value form w name plain word = option_map (λ values. record w { values = values; awaiting = None }) (with_named form w.values name word)
 by_value form w name end_of_options word = None
 by_value form w name (option other value) word = None
 by_value form w name other_flag word = None
@@ -85,7 +85,7 @@ by_awaiting form w (Some name) word = by_value form w name (kind_of word) word
 
 -- the walk after one more word
 abbrev pub step : Form → Walk → Text → Option Walk
-step form w word = if w.behind then placed form w word else by_awaiting form w w.awaiting word
+step form w word = if w.behind then with_place form w word else by_awaiting form w w.awaiting word
 
 abbrev pub walked : Form → Walk → List Text → Option Walk
 walked form w [] = Some w
@@ -95,9 +95,9 @@ walked form w (word ∷ words) = option_and_then (λ v. walked form v words) (st
 abbrev pub is_full : Form → Values → Bool
 is_full form values = list_all (λ name. is_some (value_of form values name)) form.places
 
-abbrev pub finished : Form → Walk → Option Values
-finished form w = if is_none w.awaiting && is_full form w.values then Some w.values else None
+abbrev pub walk_values : Form → Walk → Option Values
+walk_values form w = if is_none w.awaiting && is_full form w.values then Some w.values else None
 
 -- The values that the words of a command give, those after the command's own.
 abbrev pub values_of : Form → List Text → Option Values
-values_of form words = option_and_then (finished form) (walked form first_step words)
+values_of form words = option_and_then (walk_values form) (walked form first_step words)

@@ -3,7 +3,7 @@
 ghost use Rattle.std.specs.Prelude.{◌≡◌, IfOk, false, fold, map};
 ghost use Rattle.clap.specs.Words.{app_of, rule_of, with_rule};
 ghost use Rattle.command_words.specs.Apps.{app_with, bare_app, option_arg, place_arg};
-ghost use Rattle.command_words.specs.Walked.{form_seen, seen};
+ghost use Rattle.command_words.specs.Walked.{form_seen, option_names};
 
 use crate::forms::Form;
 use clap::{Arg, ArgAction, Command};
@@ -37,7 +37,7 @@ fn with_places<'a>(
     command: Command<'a>,
     names: &[&'a str],
 ) -> Result<Command<'a>, AllocError>
-    ensures { IfOk result (λ more. app_of more ≡ fold with_rule (app_of command.entry) (map place_arg (seen names.entry.now))) }
+    ensures { IfOk result (λ more. app_of more ≡ fold with_rule (app_of command.entry) (map place_arg (option_names names.entry.now))) }
 {
     let mut command = command;
     for name in names {
@@ -52,7 +52,7 @@ fn with_options<'a>(
     command: Command<'a>,
     names: &[&'a str],
 ) -> Result<Command<'a>, AllocError>
-    ensures { IfOk result (λ more. app_of more ≡ fold with_rule (app_of command.entry) (map option_arg (seen names.entry.now))) }
+    ensures { IfOk result (λ more. app_of more ≡ fold with_rule (app_of command.entry) (map option_arg (option_names names.entry.now))) }
 {
     let mut command = command;
     for name in names {

@@ -1,7 +1,7 @@
 //! Reads the words of a command by clap.
 
 ghost use Rattle.std.specs.Prelude.{◌≡◌, IfOk, IsErrOf, None, drop, map, string_bytes};
-ghost use Rattle.command_words.specs.Asked.{Holds};
+ghost use Rattle.command_words.specs.Asked.{AreMatches};
 ghost use Rattle.command_words.specs.Grammar.{taken_of};
 ghost use Rattle.command_words.specs.Commands.{form_of};
 
@@ -30,7 +30,7 @@ pub fn matches<'a>(
     name: CommandName,
     words: &'a [String],
 ) -> Result<ArgMatches<'a>, WordFault>
-    ensures taken { IfOk result (λ matches. Holds (form_of name) (drop 1 (map string_bytes words.entry.now)) matches) }
+    ensures taken { IfOk result (λ matches. AreMatches (form_of name) (drop 1 (map string_bytes words.entry.now)) matches) }
     ensures usage { IsErrOf result WordFault.Usage → taken_of (form_of name) (drop 1 (map string_bytes words.entry.now)) ≡ None }
 {
     let form = name.form();

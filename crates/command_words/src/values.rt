@@ -1,7 +1,7 @@
 //! The values of words, by name and without memory.
 
 ghost use Rattle.std.specs.Prelude.{◌≡◌, option_map};
-ghost use Rattle.command_words.specs.Walks.{no_values, put, value_of};
+ghost use Rattle.command_words.specs.Walks.{no_values, with_named, value_of};
 ghost use Rattle.command_words.specs.Walked.{form_seen, values_seen};
 
 use crate::forms::{Form, MAX_NAMES};
@@ -31,7 +31,7 @@ impl<'a> Values<'a> {
 
     /// Returns the values with one more, if the name is known and has none yet.
     pub fn put(&self, form: &Form, name: &str, value: &'a str) -> Option<Values<'a>>
-        ensures { option_map values_seen result ≡ put (form_seen form.now) (values_seen self.now) name.now value.entry.now }
+        ensures { option_map values_seen result ≡ with_named (form_seen form.now) (values_seen self.now) name.now value.entry.now }
     {
         let slot = form.slot_of(name)?;
         let before = self.at_slots[slot];

@@ -3,7 +3,7 @@
 ghost use Rattle.std.specs.Prelude.{◌≡◌, map, option_map, string_bytes};
 ghost use Rattle.std.specs.List.{list_all};
 ghost use Rattle.std.specs.Option.{is_some};
-ghost use Rattle.command_words.specs.Walks.{first_step, placed, with_value, optioned, by_kind, by_value, step, is_full, finished, value_of, values_of};
+ghost use Rattle.command_words.specs.Walks.{first_step, with_place, with_value, optioned, by_kind, by_value, step, is_full, walk_values, value_of, values_of};
 ghost use Rattle.command_words.specs.Walked.{form_seen, values_seen, walk_seen};
 
 use crate::forms::Form;
@@ -50,7 +50,7 @@ impl<'a> Walk<'a> {
 
     /// Returns the walk after a word that takes the next place.
     fn place(&self, form: &Form, word: &'a str) -> Option<Walk<'a>>
-        ensures { option_map walk_seen result ≡ placed (form_seen form.now) (walk_seen self.now) word.entry.now }
+        ensures { option_map walk_seen result ≡ with_place (form_seen form.now) (walk_seen self.now) word.entry.now }
     {
         let name = form.place(self.placed)?;
         let values = self.values.put(form, name, word)?;
@@ -110,7 +110,7 @@ impl<'a> Walk<'a> {
 
     /// Returns the values, if the words may end here.
     fn finish(&self, form: &Form) -> Option<Values<'a>>
-        ensures { option_map values_seen result ≡ finished (form_seen form.now) (walk_seen self.now) }
+        ensures { option_map values_seen result ≡ walk_values (form_seen form.now) (walk_seen self.now) }
     {
         if self.awaiting.is_none() && is_full(form, &self.values) {
             Some(self.values)

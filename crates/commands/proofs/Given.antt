@@ -6,7 +6,7 @@ use Rattle.code_points.specs.Procedures.{AreProcsOf}
 use Rattle.machine.specs.Cores.{In}
 use Rattle.mdl_ast.specs.declared.items.Conf.{Conf}
 use Rattle.mdl_check.specs.Checking.{IsAnswer}
-use Rattle.mdl_check.specs.Sound.{IsSound}
+use Rattle.mdl_check.specs.Sound.{IsSoundCheck}
 use Rattle.mdl_shipped.specs.Shipped.{shipped_conf}
 use Rattle.mdl_plan.specs.Fitting.{HasLowObjects}
 use Rattle.pn_types.specs.Images.{IsImage}
@@ -25,7 +25,7 @@ use Rattle.commands.proofs.Wished.{IsWished, wished}
 -- what is known of what was found
 pub record IsKnown (image : Image) (conf : Conf) (found : Found) : Type 0 where
   pub procs : AreProcsOf image found.procs
-  pub sound : IsSound found.checked
+  pub sound : IsSoundCheck found.checked
   pub low : HasLowObjects found.tree
   pub points : length found.points < 2 ^ 32
   pub ascending : IsStrictlyIncreasing (map (λ p. p.at) found.points)

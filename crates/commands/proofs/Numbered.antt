@@ -9,7 +9,7 @@ use Rattle.mdl_ast.specs.declared.items.Wish.{Wish as TheWish}
 use Rattle.mdl_check.specs.Checking.{IsAnswer, fault_from, placed_of, metric_of, hypothesis_of, phase_of, search_behind, search_in, wish_with, wish_of}
 use Rattle.mdl_check.specs.Names.{metric_number}
 use Rattle.mdl_check.specs.Rules.{fault_of, is_cyclic, is_search, parents_of}
-use Rattle.mdl_check.specs.Placed.{PlacedItem, Entry, entry, is_taken, placed, placed_items, with_included}
+use Rattle.mdl_check.specs.Placed.{PlacedItem, Entry, entry, is_taken, placed_item, placed_items, with_included}
 use Rattle.mdl_check.specs.declared.checked.Checked.{Checked}
 use Rattle.mdl_check.specs.declared.fault.CheckFault.{CheckFault}
 use Rattle.mdl_check.specs.declared.fault.CheckKind.{CheckKind}
@@ -95,11 +95,11 @@ wishes_few : (all es : List Entry) → length (flat_map (λ e. wish_of all e.ite
 wishes_few all [] = omega arith
 wishes_few all (e ∷ es) = omega (arith, wishes_few all es, one_wish all e.item e.focus, length-append (wish_of all e.item e.focus) (flat_map (λ e. wish_of all e.item e.focus) es))
 
-taken_wishes : (line : ℕ) (metrics : Bool) (shipped : List Item) → wishes_at (map (placed line) (filter (is_taken metrics) shipped)) ≤ wishes_in shipped
+taken_wishes : (line : ℕ) (metrics : Bool) (shipped : List Item) → wishes_at (map (placed_item line) (filter (is_taken metrics) shipped)) ≤ wishes_in shipped
 taken_wishes line metrics [] = omega arith
 taken_wishes line metrics (i ∷ shipped) = go (is_taken metrics i) (filter (is_taken metrics) shipped) (taken_wishes line metrics shipped)
   where
-    go : (b : Bool) (rest : List Item) → wishes_at (map (placed line) rest) ≤ wishes_in shipped → wishes_at (map (placed line) (cond b (i ∷ rest) rest)) ≤ is_wish i + wishes_in shipped
+    go : (b : Bool) (rest : List Item) → wishes_at (map (placed_item line) rest) ≤ wishes_in shipped → wishes_at (map (placed_item line) (cond b (i ∷ rest) rest)) ≤ is_wish i + wishes_in shipped
     go true rest few = omega (arith, few)
     go false rest few = omega (arith, few)
 

@@ -39,20 +39,20 @@ use Rattle.session_spec.specs.Opening.{bad_pick}
 use Rattle.session_spec.specs.declared.data.RefusedWish.{RefusedWish}
 use Rattle.whole_run.specs.Replayed.{misfit_of}
 use Rattle.whole_run.specs.Seeded.{OneSeeded}
-use Rattle.commands.specs.Advising.{advised, IsAdviseDue, IsReportContent}
+use Rattle.commands.specs.Advising.{advice_texts, IsAdviseDue, IsReportContent}
 use Rattle.commands.specs.Output.{output}
 use Rattle.commands.specs.Blocks.{AreCounted}
-use Rattle.commands.specs.Directing.{MeansDirectives, AreDirectives, IsDirected, IsDirectDue, IsDirection, IsDirectivesContent, IsDirectRun, conf_with, or_bad_directives}
+use Rattle.commands.specs.Directing.{MeansDirectives, AreDirectives, IsConfAfter, IsDirectDue, IsDirection, IsDirectivesContent, IsDirectRun, conf_with, or_bad_directives}
 use Rattle.commands.specs.Found.{resources_of, IsCheck, IsFound}
 use Rattle.commands.specs.Given.{inputs_with}
-use Rattle.commands.specs.Inputs.{image_of, file_of, MeansConf, IsProgramContent, IsProgram, IsElfFile, IsConfContent, IsConfiguration, AreInputs}
+use Rattle.commands.specs.Inputs.{image_of, file_of, MeansConf, IsProgramContent, IsProgramOfFile, IsElfFile, IsConfContent, IsConfiguration, AreInputs}
 use Rattle.commands.specs.Logs.{or_bad_log, IsLog, IsLogContent, MeansLog}
 use Rattle.commands.specs.Replays.{replayed, IsReplay, IsReplayDue, IsReplayOf, IsReplayWith}
 use Rattle.commands.specs.Runs.{AreTexts, IsByWorkers, IsInOrder, IsLiveDue, IsOpened, IsPrepared, IsSession, IsSessionOf, Order, report_alone, report_and_log, stress_order, stress_session, stress_sight, summary_of, views_of}
 use Rattle.commands.specs.Listing.{IsAsmDue}
-use Rattle.commands.specs.Plans.{metric_named, or_unknown, or_bad_focus, IsSelected, IsPlanned, IsPlanAt, IsPlan, IsPlanDue}
-use Rattle.commands.specs.Due.{AreAlike, AreOne, IsDue, IsDueFor, is_live}
-use Rattle.commands.specs.Sights.{Sight, limited, IsContent}
+use Rattle.commands.specs.Plans.{metric_named, or_unknown, or_bad_focus, IsSelected, IsPlanText, IsPlanAt, IsPlan, IsPlanDue}
+use Rattle.commands.specs.Due.{AreLike, AreOne, IsDue, IsDueFor, is_live}
+use Rattle.commands.specs.Sights.{FileReading, limited, IsContent}
 use Rattle.commands.specs.declared.advising.TheConstants.{REPORT_LIMIT}
 use Rattle.commands.specs.declared.configuration.TheConstants.{CONFIGURATION_LIMIT}
 use Rattle.commands.specs.declared.directing.TheConstants.{DIRECTIVES_LIMIT}
@@ -80,21 +80,21 @@ equal_once value a b e f = e ∙ sym f
 
 -- ---- answers that are alike
 
-pub of_same : (a b : Result Texts Fault) → a ≡ b → AreAlike a b
+pub of_same : (a b : Result Texts Fault) → a ≡ b → AreLike a b
 of_same (Ok x) (Ok y) e = tt
 of_same (Ok x) (Err g) e = absurd (cc)
 of_same (Err f) (Ok y) e = absurd (cc)
 of_same (Err f) (Err g) e = cc
 
 opened_alike : (pick : Option RefusedWish) (i : SessionInputs) (InOrder : Order) (texts_of : SessionInputs → List Quantum → Texts) (a b : Result Texts Fault) →
-    IsOpened pick i (AreTexts InOrder texts_of i) a → IsOpened pick i (AreTexts InOrder texts_of i) b → AreAlike a b
+    IsOpened pick i (AreTexts InOrder texts_of i) a → IsOpened pick i (AreTexts InOrder texts_of i) b → AreLike a b
 opened_alike None i InOrder texts_of (Ok x) (Ok y) d e = tt
 opened_alike None i InOrder texts_of (Ok x) (Err g) d (others, right, f) = absurd (cc)
 opened_alike None i InOrder texts_of (Err f) b (quanta, right, e) d = absurd (cc)
 opened_alike (Some wish) i InOrder texts_of a b d e = of_same a b (d ∙ sym e)
 
 session_alike : (InOrder : Order) (texts_of : SessionInputs → List Quantum → Texts) (i : SessionInputs) (a b : Result Texts Fault) →
-    IsSession InOrder texts_of i a → IsSession InOrder texts_of i b → AreAlike a b
+    IsSession InOrder texts_of i a → IsSession InOrder texts_of i b → AreLike a b
 session_alike InOrder texts_of i = opened_alike (bad_pick i) i InOrder texts_of
 
 -- ---- configurations
@@ -176,7 +176,7 @@ module _ (laws : Laws) where
   selected_once : (t : Resources) (text : List ℕ) → IsOne (IsSelected t text)
   selected_once t text r s (o, a, e) (p, b, f) = e ∙ ap or_bad_focus (laws.selection t text o p a b) ∙ sym f
 
-  planned_once : (metric focus : List ℕ) (due : Result Plan PlanFault) → IsOne (IsPlanned metric focus due)
+  planned_once : (metric focus : List ℕ) (due : Result Plan PlanFault) → IsOne (IsPlanText metric focus due)
   planned_once metric focus (Ok made) a b e f = e ∙ sym f
   planned_once metric focus (Err (cause.NoConstraint axis)) a b e f = e ∙ sym f
   planned_once metric focus (Err (cause.TooManySites n)) a b e f = e ∙ sym f
@@ -217,18 +217,18 @@ module _ (laws : Laws) where
       one_then (IsFound i.image log.settings.harts i.conf) (IsReplay log i.image) (found_once i.image log.settings.harts i.conf)
       (λ found. replay_once log (inputs_with i.image found log.settings))
 
-  module _ (sees : Sight) (once : (name : List ℕ) → IsOne (sees name)) where
+  module _ (sees : FileReading) (once : (name : List ℕ) → IsOne (sees name)) where
     content_once : (most : ℕ) (too_long : Fault) (name : List ℕ) → IsOne (IsContent sees most too_long name)
     content_once most too_long name = one_then (sees name) (λ bytes content. content ≡ limited most too_long bytes) (once name) (λ bytes. equal_once (limited most too_long bytes))
 
-    program_once : (name : List ℕ) → IsOne (IsProgram sees name)
+    program_once : (name : List ℕ) → IsOne (IsProgramOfFile sees name)
     program_once name =
         one_then (IsProgramContent sees name) (λ bytes image. image ≡ image_of bytes) (content_once MAX_PROGRAM_LEN (BadProgram TooLong) name) (λ bytes. equal_once (image_of bytes))
 
     inputs_once : (program conf : List ℕ) → IsOne (AreInputs sees program conf)
     inputs_once program conf =
         let ended : Image → Conf → Step Inputs = λ image c inputs. inputs ≡ Ok (record { image = image; conf = c }) in
-        one_then (IsProgram sees program) (λ image. Then (IsConfiguration sees conf) (ended image)) (program_once program)
+        one_then (IsProgramOfFile sees program) (λ image. Then (IsConfiguration sees conf) (ended image)) (program_once program)
         (λ image. one_then (IsConfiguration sees conf) (ended image) (one_then (IsConfContent sees conf) MeansConf (content_once CONFIGURATION_LIMIT (BadConf (fault_at 0 0 TooLongConf)) conf) conf_once)
         (λ c. equal_once (Ok (record { image = image; conf = c }))))
 
@@ -242,9 +242,9 @@ module _ (laws : Laws) where
     session_of_once : (r : SessionRequest) (order : TurnOrder) (texts_of : SessionInputs → List Quantum → Texts) → IsOne (IsSessionOf r sees (IsInOrder order) texts_of)
     session_of_once r order texts_of = one_then (IsPrepared r sees) (IsSession (IsInOrder order) texts_of) (prepared_once r) (session_once order texts_of)
 
-    live_due_alike : (r : LiveRequest) (a b : Result Texts Fault) → IsLiveDue r sees a → IsLiveDue r sees b → AreAlike a b
+    live_due_alike : (r : LiveRequest) (a b : Result Texts Fault) → IsLiveDue r sees a → IsLiveDue r sees b → AreLike a b
     live_due_alike r =
-        related_then AreAlike of_same (IsPrepared r.session sees) (IsSession (IsByWorkers r.workers r.quantum) report_and_log) (prepared_once r.session)
+        related_then AreLike of_same (IsPrepared r.session sees) (IsSession (IsByWorkers r.workers r.quantum) report_and_log) (prepared_once r.session)
         (session_alike (IsByWorkers r.workers r.quantum) report_and_log)
 
     log_once : (name : List ℕ) → IsOne (IsLog sees name)
@@ -257,8 +257,8 @@ module _ (laws : Laws) where
 
     advise_due_once : (name : List ℕ) → IsOne (IsAdviseDue name sees)
     advise_due_once name =
-        one_then (IsReportContent sees name) (λ bytes texts. texts ≡ advised (verdicts_of bytes)) (content_once REPORT_LIMIT (BadReport REPORT_LIMIT) name)
-        (λ bytes. equal_once (advised (verdicts_of bytes)))
+        one_then (IsReportContent sees name) (λ bytes texts. texts ≡ advice_texts (verdicts_of bytes)) (content_once REPORT_LIMIT (BadReport REPORT_LIMIT) name)
+        (λ bytes. equal_once (advice_texts (verdicts_of bytes)))
 
     directions_once : (name : List ℕ) → IsOne (AreDirectives sees name)
     directions_once name =
@@ -266,8 +266,8 @@ module _ (laws : Laws) where
 
     direction_once : (r : DirectRequest) (i : Inputs) → IsOne (IsDirection r sees i)
     direction_once r i =
-        one_then (AreDirectives sees r.directives) (λ directives. Then (IsDirected i.conf directives) (IsDirectRun r i.image)) (directions_once r.directives)
-        (λ directives. one_then (IsDirected i.conf directives) (IsDirectRun r i.image) (equal_once (conf_with (or_bad_directives (applied shipped_conf.items i.conf.items directives))))
+        one_then (AreDirectives sees r.directives) (λ directives. Then (IsConfAfter i.conf directives) (IsDirectRun r i.image)) (directions_once r.directives)
+        (λ directives. one_then (IsConfAfter i.conf directives) (IsDirectRun r i.image) (equal_once (conf_with (or_bad_directives (applied shipped_conf.items i.conf.items directives))))
         (direct_run_once r i.image))
 
     direct_due_once : (r : DirectRequest) → IsOne (IsDirectDue r sees)
@@ -288,23 +288,23 @@ module _ (laws : Laws) where
         (one_then (IsProgramContent sees name) (λ bytes file. file ≡ file_of bytes) (content_once MAX_PROGRAM_LEN (BadProgram TooLong) name)
         (λ bytes. equal_once (file_of bytes))) (λ file. equal_once (Ok (output file)))
 
-  module _ (sees : Sight) (once : (name : List ℕ) → IsOne (sees name)) where
+  module _ (sees : FileReading) (once : (name : List ℕ) → IsOne (sees name)) where
     due_for_once : (asked : Option Request) → is_live asked ≡ false → IsOne (IsDueFor asked sees)
     due_for_once None other = equal_once (Err Usage)
     due_for_once (Some (run r)) other = session_of_once sees once r.session r.order report_and_log
     due_for_once (Some (live r)) other = absurd (cc)
     due_for_once (Some (replay r)) other = replay_due_once sees once r
     due_for_once (Some (plan r)) other = plan_due_once sees once r
-    due_for_once (Some (points name)) other = one_then (IsProgram sees name) _ (program_once sees once name) (λ image. equal_once _)
+    due_for_once (Some (points name)) other = one_then (IsProgramOfFile sees name) _ (program_once sees once name) (λ image. equal_once _)
     due_for_once (Some (asm name)) other = asm_due_once sees once name
     due_for_once (Some (relog name)) other = one_then (IsLog sees name) _ (log_once sees once name) (λ log. equal_once _)
     due_for_once (Some (stress r)) other = session_of_once (stress_sight r) (λ name a b e f. e ∙ sym f) stress_session (stress_order r) (summary_of r.procs)
-    due_for_once (Some (blocks r)) other = one_then (IsProgram sees r.program) (AreCounted r) (program_once sees once r.program) (counted_once r)
+    due_for_once (Some (blocks r)) other = one_then (IsProgramOfFile sees r.program) (AreCounted r) (program_once sees once r.program) (counted_once r)
     due_for_once (Some (visi r)) other = session_of_once sees once r.session r.order (views_of r.views)
     due_for_once (Some (advise name)) other = advise_due_once sees once name
     due_for_once (Some (direct r)) other = direct_due_once sees once r
 
-    due_for_alike : (asked : Option Request) (a b : Result Texts Fault) → IsDueFor asked sees a → IsDueFor asked sees b → AreAlike a b
+    due_for_alike : (asked : Option Request) (a b : Result Texts Fault) → IsDueFor asked sees a → IsDueFor asked sees b → AreLike a b
     due_for_alike None a b d e = of_same a b (due_for_once None refl a b d e)
     due_for_alike (Some (run r)) a b d e = of_same a b (due_for_once (Some (run r)) refl a b d e)
     due_for_alike (Some (live r)) a b d e = live_due_alike sees once r a b d e

@@ -1,6 +1,6 @@
 -- What is due where a session can't be opened.
 use Rattle.std.proofs.Common.{◌≡◌, Option, Some, None, Ok, Err, ap, ◌∙◌}
-use Rattle.refusals.specs.Refusals.{Comes, Refuses, Step}
+use Rattle.refusals.specs.Refusals.{Comes, RefusalIs, Step}
 use Rattle.refusals.specs.declared.fault.Fault.{Fault}
 use Rattle.refusals.specs.declared.refusal.Refusal.{Refusal}
 use Rattle.refusals.specs.declared.refusal.Refusal.TheVariants as refusal
@@ -16,7 +16,7 @@ picked None i comes wish fault e is = absurd (cc)
 picked (Some other) i comes wish fault e is = let same : wish ≡ other = cc in ap (λ (f : Fault). Err f) (is ∙ ap (pick_fault i) same)
 
 -- the refusal of a wish is what is due, whatever would come of the session
-pub unopened_is : (i : Inputs) (comes : Step Texts) (e : Refusal) → Refuses e (IsPickFault i) → Comes (Err e) (IsOpened (bad_pick i) i comes)
+pub unopened_is : (i : Inputs) (comes : Step Texts) (e : Refusal) → RefusalIs e (IsPickFault i) → Comes (Err e) (IsOpened (bad_pick i) i comes)
 unopened_is i comes (refusal.Fault fault) (wish, is, same) = picked (bad_pick i) i comes wish fault is same
 unopened_is i comes refusal.NoMemory h = tt
 

@@ -48,18 +48,18 @@ use Rattle.whole_run.specs.Replayed.{misfit_of}
 use Rattle.whole_run.specs.declared.misfit.Misfit.{Misfit}
 use Rattle.whole_run.specs.declared.misfit.Misfit.TheVariants as misfit
 use Rattle.commands.specs.Given.{inputs_with}
-use Rattle.commands.specs.Advising.{advised, IsAdviseDue, IsReportContent}
+use Rattle.commands.specs.Advising.{advice_texts, IsAdviseDue, IsReportContent}
 use Rattle.commands.specs.Output.{output}
 use Rattle.commands.specs.Blocks.{AreCounted}
-use Rattle.commands.specs.Directing.{MeansDirectives, AreDirectives, IsDirected, IsDirectDue, IsDirection, IsDirectivesContent, IsDirectRun, conf_with, or_bad_directives}
+use Rattle.commands.specs.Directing.{MeansDirectives, AreDirectives, IsConfAfter, IsDirectDue, IsDirection, IsDirectivesContent, IsDirectRun, conf_with, or_bad_directives}
 use Rattle.commands.specs.Due.{IsDueFor, IsDue}
 use Rattle.commands.specs.Runs.{AreTexts, IsByWorkers, IsInOrder, IsOpened, IsPrepared, IsSession, IsSessionOf, IsStressDue, Order, report_alone, report_and_log, stress_order, stress_session, stress_sight, summary_of, views_of}
 use Rattle.commands.specs.Found.{resources_of, IsCheck, IsFound}
-use Rattle.commands.specs.Inputs.{begins_elf, or_bad_elf, or_bad_text, image_of, file_of, MeansConf, IsProgramContent, IsProgram, IsElfFile, IsConfContent, IsConfiguration, AreInputs}
+use Rattle.commands.specs.Inputs.{begins_elf, or_bad_elf, or_bad_text, image_of, file_of, MeansConf, IsProgramContent, IsProgramOfFile, IsElfFile, IsConfContent, IsConfiguration, AreInputs}
 use Rattle.commands.specs.Logs.{or_bad_log, IsLog, IsLogContent, MeansLog}
 use Rattle.commands.specs.Replays.{replayed, IsReplay, IsReplayDue, IsReplayOf, IsReplayWith}
-use Rattle.commands.specs.Plans.{metric_named, or_unknown, or_bad_focus, IsSelected, IsPlanned, IsPlanAt, IsPlan}
-use Rattle.commands.specs.Sights.{Sight, seen, limited, IsContent}
+use Rattle.commands.specs.Plans.{metric_named, or_unknown, or_bad_focus, IsSelected, IsPlanText, IsPlanAt, IsPlan}
+use Rattle.commands.specs.Sights.{FileReading, file_read, limited, IsContent}
 use Rattle.commands.specs.declared.advising.TheConstants.{REPORT_LIMIT}
 use Rattle.commands.specs.declared.configuration.TheConstants.{CONFIGURATION_LIMIT}
 use Rattle.commands.specs.declared.directing.TheConstants.{DIRECTIVES_LIMIT}
@@ -122,7 +122,7 @@ focus_spared : (o : Option Focus) (name : List ℕ) → Err (FileFault name) ≡
 focus_spared None name e = cc
 focus_spared (Some m) name e = cc
 
-plan_spared : (metric focus : List ℕ) (due : Result Plan PlanFault) (name : List ℕ) → IsPlanned metric focus due (Err (FileFault name)) → ⊥
+plan_spared : (metric focus : List ℕ) (due : Result Plan PlanFault) (name : List ℕ) → IsPlanText metric focus due (Err (FileFault name)) → ⊥
 plan_spared metric focus (Ok made) name e = cc
 plan_spared metric focus (Err (cause.NoConstraint axis)) name e = cc
 plan_spared metric focus (Err (cause.TooManySites n)) name e = cc
@@ -154,7 +154,7 @@ replay_spared log i name =
     opened_spared (bad_pick i) i (λ texts. texts ≡ replayed (misfit_of i log.quanta) log i) name
     (spared (replayed (misfit_of i log.quanta) log i) name (replayed_spared (misfit_of i log.quanta) log i))
 
-advice_spared : (r : Result (List Verdict) ReportFault) → Spares (advised r)
+advice_spared : (r : Result (List Verdict) ReportFault) → Spares (advice_texts r)
 advice_spared (Ok verdicts) = tt
 advice_spared (Err (report_fault.BadReport place)) = tt
 
@@ -172,13 +172,13 @@ conf_with_spared (Err fault) h = h
 -- ---- where a file was read
 
 -- P follows from each file that was seen as unread
-module _ (name : List ℕ) (P : Type 0) (sees : Sight) (at_file : (other : List ℕ) → sees other (Err (FileFault name)) → P) where
+module _ (name : List ℕ) (P : Type 0) (sees : FileReading) (at_file : (other : List ℕ) → sees other (Err (FileFault name)) → P) where
   at_content : (most : ℕ) (too_long : Fault) (other : List ℕ) → NotFile too_long → IsContent sees most too_long other (Err (FileFault name)) → P
   at_content most too_long other spare =
       of_either P (sees other) (λ bytes content. content ≡ limited most too_long bytes) (FileFault name) (at_file other)
       (λ bytes e. absurd (spared (limited most too_long bytes) name (limited_spared most too_long bytes spare) e))
 
-  at_program : (other : List ℕ) → IsProgram sees other (Err (FileFault name)) → P
+  at_program : (other : List ℕ) → IsProgramOfFile sees other (Err (FileFault name)) → P
   at_program other =
       of_either P (IsProgramContent sees other) (λ bytes image. image ≡ image_of bytes) (FileFault name) (at_content MAX_PROGRAM_LEN (BadProgram TooLong) other tt)
       (λ bytes e. absurd (spared (image_of bytes) name (image_spared bytes) e))
@@ -195,7 +195,7 @@ module _ (name : List ℕ) (P : Type 0) (sees : Sight) (at_file : (other : List 
   at_inputs : (program conf : List ℕ) → AreInputs sees program conf (Err (FileFault name)) → P
   at_inputs program conf =
       let ended : Image → Conf → Result Inputs Fault → Type 0 = λ image c inputs. inputs ≡ Ok (record { image = image; conf = c }) in
-      of_either P (IsProgram sees program) (λ image. Then (IsConfiguration sees conf) (ended image)) (FileFault name) (at_program program)
+      of_either P (IsProgramOfFile sees program) (λ image. Then (IsConfiguration sees conf) (ended image)) (FileFault name) (at_program program)
       (λ image. of_either P (IsConfiguration sees conf) (ended image) (FileFault name) (at_configuration conf) (λ c e. absurd (cc)))
 
   at_plan : (p : PlanRequest) (found : Found) → IsPlan p found (Err (FileFault name)) → ⊥
@@ -225,7 +225,7 @@ module _ (name : List ℕ) (P : Type 0) (sees : Sight) (at_file : (other : List 
 stress_spared : (r : StressRequest) (name : List ℕ) → IsStressDue r (Err (FileFault name)) → ⊥
 stress_spared r name = at_session name ⊥ (stress_sight r) (λ other e. absurd (cc)) stress_session (IsInOrder (stress_order r)) (summary_of r.procs)
 
-module _ (name : List ℕ) (P : Type 0) (sees : Sight) (at_file : (other : List ℕ) → sees other (Err (FileFault name)) → P) where
+module _ (name : List ℕ) (P : Type 0) (sees : FileReading) (at_file : (other : List ℕ) → sees other (Err (FileFault name)) → P) where
   at_log : (other : List ℕ) → IsLog sees other (Err (FileFault name)) → P
   at_log other =
       of_either P (IsLogContent sees other) MeansLog (FileFault name) (at_content name P sees at_file LOG_LIMIT (BadLog LOG_LIMIT TooLongLog) other tt)
@@ -244,8 +244,8 @@ module _ (name : List ℕ) (P : Type 0) (sees : Sight) (at_file : (other : List 
 
   at_advice : (other : List ℕ) → IsAdviseDue other sees (Err (FileFault name)) → P
   at_advice other =
-      of_either P (IsReportContent sees other) (λ bytes texts. texts ≡ advised (verdicts_of bytes)) (FileFault name) (at_content name P sees at_file REPORT_LIMIT (BadReport REPORT_LIMIT) other tt)
-      (λ bytes e. absurd (spared (advised (verdicts_of bytes)) name (advice_spared (verdicts_of bytes)) e))
+      of_either P (IsReportContent sees other) (λ bytes texts. texts ≡ advice_texts (verdicts_of bytes)) (FileFault name) (at_content name P sees at_file REPORT_LIMIT (BadReport REPORT_LIMIT) other tt)
+      (λ bytes e. absurd (spared (advice_texts (verdicts_of bytes)) name (advice_spared (verdicts_of bytes)) e))
 
   at_directives : (other : List ℕ) → AreDirectives sees other (Err (FileFault name)) → P
   at_directives other =
@@ -260,9 +260,9 @@ module _ (name : List ℕ) (P : Type 0) (sees : Sight) (at_file : (other : List 
 
   at_direction : (r : DirectRequest) (i : Inputs) → IsDirection r sees i (Err (FileFault name)) → P
   at_direction r i =
-      of_either P (AreDirectives sees r.directives) (λ directives. Then (IsDirected i.conf directives) (IsDirectRun r i.image)) (FileFault name) (at_directives r.directives)
+      of_either P (AreDirectives sees r.directives) (λ directives. Then (IsConfAfter i.conf directives) (IsDirectRun r i.image)) (FileFault name) (at_directives r.directives)
       (λ directives. let made = applied shipped_conf.items i.conf.items directives in
-      of_either P (IsDirected i.conf directives) (IsDirectRun r i.image) (FileFault name)
+      of_either P (IsConfAfter i.conf directives) (IsDirectRun r i.image) (FileFault name)
       (λ e. absurd (spared (conf_with (or_bad_directives made)) name (conf_with_spared (or_bad_directives made) (directed_spared made)) e)) (at_direct_run r i.image))
 
   at_direct : (r : DirectRequest) → IsDirectDue r sees (Err (FileFault name)) → P
@@ -282,7 +282,7 @@ module _ (name : List ℕ) (P : Type 0) (sees : Sight) (at_file : (other : List 
       of_either P (AreInputs sees p.program p.conf) (λ i. Then (IsFound i.image p.harts i.conf) (IsPlan p)) (FileFault name) (at_inputs name P sees at_file p.program p.conf)
       (λ i. of_either P (IsFound i.image p.harts i.conf) (IsPlan p) (FileFault name)
       (λ wrong. absurd (check_spared (resources_of i.image p.harts i.conf) i.conf name wrong)) (λ found e. absurd (at_plan name P sees at_file p found e)))
-  at_request (Some (points other)) = of_either P (IsProgram sees other) _ (FileFault name) (at_program name P sees at_file other) (λ image e. absurd (cc))
+  at_request (Some (points other)) = of_either P (IsProgramOfFile sees other) _ (FileFault name) (at_program name P sees at_file other) (λ image e. absurd (cc))
   at_request (Some (asm other)) = of_either P (IsElfFile sees other) (λ file texts. texts ≡ Ok (output file)) (FileFault name) (at_text name P sees at_file other) (λ file e. absurd (cc))
   at_request (Some (relog other)) = of_either P (IsLog sees other) _ (FileFault name) (at_log other) (λ log e. absurd (cc))
   at_request (Some (stress r)) = λ e. absurd (stress_spared r name e)
@@ -290,15 +290,15 @@ module _ (name : List ℕ) (P : Type 0) (sees : Sight) (at_file : (other : List 
   at_request (Some (advise other)) = at_advice other
   at_request (Some (direct r)) = at_direct r
   at_request (Some (blocks r)) =
-      of_either P (IsProgram sees r.program) (AreCounted r) (FileFault name) (at_program name P sees at_file r.program) (λ image e. absurd (counted_spared r image name e))
+      of_either P (IsProgramOfFile sees r.program) (AreCounted r) (FileFault name) (at_program name P sees at_file r.program) (λ image e. absurd (counted_spared r image name e))
 
   at_words : (words : List (List ℕ)) → IsDue words sees (Err (FileFault name)) → P
   at_words words = at_request (request_of words)
 
-pub rises : (holds : List ℕ → Holding) (before now : List ℕ → ℕ) (name : List ℕ) (words : List (List ℕ)) → IsDue words (seen holds before now) (Err (FileFault name)) → Rose (before name) (now name)
-rises holds before now name words = at_words name (Rose (before name) (now name)) (seen holds before now) at words
+pub rises : (holds : List ℕ → Holding) (before now : List ℕ → ℕ) (name : List ℕ) (words : List (List ℕ)) → IsDue words (file_read holds before now) (Err (FileFault name)) → Rose (before name) (now name)
+rises holds before now name words = at_words name (Rose (before name) (now name)) (file_read holds before now) at words
   where
-    at : (other : List ℕ) → seen holds before now other (Err (FileFault name)) → Rose (before name) (now name)
+    at : (other : List ℕ) → file_read holds before now other (Err (FileFault name)) → Rose (before name) (now name)
     at other h =
         let e = h.0 in
         let same : other ≡ name = cc in

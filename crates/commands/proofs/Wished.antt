@@ -13,7 +13,7 @@ use Rattle.mdl_check.specs.declared.checked.Checked.{Checked}
 use Rattle.mdl_check.specs.declared.checked.CheckedWish.{CheckedWish}
 use Rattle.pn_types.specs.declared.focus.Focus.{Focus}
 use Rattle.resource_tree.proofs.InTree.{focus_in}
-use Rattle.resource_tree.specs.Foci.{Selects, IsBelow, harts_of}
+use Rattle.resource_tree.specs.Foci.{Selects, IsBelow, harts_of_node}
 use Rattle.resource_tree.specs.Resources.{Resources}
 use Rattle.commands.proofs.Each.{all_both}
 
@@ -54,7 +54,7 @@ number_below k j (e ∷ es) name h =
 
 -- ---- the harts of a focus
 
-harts_within : (n : ℕ) (hart : Option ℕ) → IsBelow n hart → (harts_of n hart).0 + (harts_of n hart).1 ≤ n
+harts_within : (n : ℕ) (hart : Option ℕ) → IsBelow n hart → (harts_of_node n hart).0 + (harts_of_node n hart).1 ≤ n
 harts_within n None h = omega arith
 harts_within n (Some k) h = omega (arith, h)
 
@@ -63,7 +63,7 @@ harts_within n (Some k) h = omega (arith, h)
 -- the number of one of the metrics, and harts of the tree
 pub record IsWished (t : Resources) (metrics : List TheMetric) (w : CheckedWish) : Type 0 where
   pub metric : w.metric < length metrics
-  pub harts : (harts_of t.harts w.focus.hart).0 + (harts_of t.harts w.focus.hart).1 ≤ t.harts
+  pub harts : (harts_of_node t.harts w.focus.hart).0 + (harts_of_node t.harts w.focus.hart).1 ≤ t.harts
 
 module _ (t : Resources) (all : List Entry) where
   abbrev AreWished : List CheckedWish → Type 0

@@ -9,18 +9,18 @@ use Rattle.refusals.specs.Refusals.{Step, Then}
 use Rattle.refusals.specs.declared.fault.Fault.{Fault}
 use Rattle.refusals.specs.declared.fault.Fault.TheVariants.{BadReport}
 use Rattle.commands.specs.Output.{output}
-use Rattle.commands.specs.Sights.{Sight, IsContent}
+use Rattle.commands.specs.Sights.{FileReading, IsContent}
 use Rattle.commands.specs.declared.texts.Texts.{Texts}
 
 -- what the verdicts of a report advise, or its first fault
-abbrev pub advised : Result (List Verdict) ReportFault → Result Texts Fault
-advised (Ok verdicts) = Ok (output (advice verdicts))
-advised (Err (fault.BadReport place)) = Err (BadReport place)
+abbrev pub advice_texts : Result (List Verdict) ReportFault → Result Texts Fault
+advice_texts (Ok verdicts) = Ok (output (advice verdicts))
+advice_texts (Err (fault.BadReport place)) = Err (BadReport place)
 
 -- what a report's file has, at most 33,554,432 bytes
-abbrev pub IsReportContent : Sight → List ℕ → Step (List ℕ)
+abbrev pub IsReportContent : FileReading → List ℕ → Step (List ℕ)
 IsReportContent sees = IsContent sees 33554432 (BadReport 33554432)
 
 -- what the report of a name advises
-abbrev pub IsAdviseDue : List ℕ → Sight → Step Texts
-IsAdviseDue name sees = Then (IsReportContent sees name) (λ bytes texts. texts ≡ advised (verdicts_of bytes))
+abbrev pub IsAdviseDue : List ℕ → FileReading → Step Texts
+IsAdviseDue name sees = Then (IsReportContent sees name) (λ bytes texts. texts ≡ advice_texts (verdicts_of bytes))

@@ -12,8 +12,8 @@ use Rattle.pn_types.specs.declared.image.Image.{Image}
 use Rattle.refusals.specs.Refusals.{Step, Then}
 use Rattle.refusals.specs.declared.fault.Fault.TheVariants.{TooManyBlocks}
 use Rattle.commands.specs.Output.{output}
-use Rattle.commands.specs.Inputs.{IsProgram}
-use Rattle.commands.specs.Sights.{Sight}
+use Rattle.commands.specs.Inputs.{IsProgramOfFile}
+use Rattle.commands.specs.Sights.{FileReading}
 use Rattle.commands.specs.declared.texts.Texts.{Texts}
 
 abbrev pub pace_of : BlocksRequest → Pace
@@ -26,5 +26,5 @@ AreCounted r image (Ok texts) =
     × (texts ≡ output (blocks_text (heads_of image (procedures_of image)) counts))
 AreCounted r image (Err why) = (count : ℕ) × IsFault image (procedures_of image) (fault.TooManyBlocks count) × (why ≡ TooManyBlocks count)
 
-abbrev pub IsBlocksDue : BlocksRequest → Sight → Step Texts
-IsBlocksDue r sees = Then (IsProgram sees r.program) (AreCounted r)
+abbrev pub IsBlocksDue : BlocksRequest → FileReading → Step Texts
+IsBlocksDue r sees = Then (IsProgramOfFile sees r.program) (AreCounted r)

@@ -19,7 +19,7 @@ use Rattle.commands.specs.Found.{IsFound}
 use Rattle.commands.specs.Given.{inputs_with}
 use Rattle.commands.specs.Inputs.{AreInputs}
 use Rattle.commands.specs.Runs.{IsInOrder, IsSession, report_alone}
-use Rattle.commands.specs.Sights.{Sight, IsContent}
+use Rattle.commands.specs.Sights.{FileReading, IsContent}
 use Rattle.commands.specs.declared.inputs.Inputs.{Inputs as Read}
 use Rattle.commands.specs.declared.texts.Texts.{Texts}
 
@@ -33,11 +33,11 @@ MeansDirectives text (Err fault) =
     × IsFault text line col kind × (fault ≡ BadDirectives (fault_at line col (directive_kind kind)))
 
 -- what a file of directives has, at most 1,048,576 bytes
-abbrev pub IsDirectivesContent : Sight → List ℕ → Step (List ℕ)
+abbrev pub IsDirectivesContent : FileReading → List ℕ → Step (List ℕ)
 IsDirectivesContent sees = IsContent sees 1048576 (BadDirectives (fault_at 0 0 TooLong))
 
 -- the directives of a name
-abbrev pub AreDirectives : Sight → List ℕ → Step (List Directive)
+abbrev pub AreDirectives : FileReading → List ℕ → Step (List Directive)
 AreDirectives sees name = Then (IsDirectivesContent sees name) MeansDirectives
 
 -- what is refused
@@ -54,8 +54,8 @@ conf_with (Ok items) = Ok (record { items = items })
 conf_with (Err fault) = Err fault
 
 -- the configuration after directives
-abbrev pub IsDirected : Conf → List Directive → Step Conf
-IsDirected conf directives directed = directed ≡ conf_with (or_bad_directives (applied shipped_conf.items conf.items directives))
+abbrev pub IsConfAfter : Conf → List Directive → Step Conf
+IsConfAfter conf directives directed = directed ≡ conf_with (or_bad_directives (applied shipped_conf.items conf.items directives))
 
 -- ---- direct
 
@@ -66,11 +66,11 @@ IsDirectRun r image conf =
     IsSession (IsInOrder r.order) report_alone (inputs_with image found r.session.settings))
 
 -- directives, and the run under what they make of the configuration
-abbrev pub IsDirection : DirectRequest → Sight → Read → Step Texts
-IsDirection r sees i = Then (AreDirectives sees r.directives) (λ directives. Then (IsDirected i.conf directives) (IsDirectRun r i.image))
+abbrev pub IsDirection : DirectRequest → FileReading → Read → Step Texts
+IsDirection r sees i = Then (AreDirectives sees r.directives) (λ directives. Then (IsConfAfter i.conf directives) (IsDirectRun r i.image))
 
 -- The program and the configuration are read and checked, and then the directives.
-abbrev pub IsDirectDue : DirectRequest → Sight → Step Texts
+abbrev pub IsDirectDue : DirectRequest → FileReading → Step Texts
 IsDirectDue r sees =
     Then (AreInputs sees r.session.program r.session.conf) (λ i.
     Then (IsFound i.image r.session.settings.harts i.conf) (λ found. IsDirection r sees i))

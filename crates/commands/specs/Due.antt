@@ -11,11 +11,11 @@ use Rattle.commands.specs.Listing.{IsPointsDue, IsAsmDue}
 use Rattle.commands.specs.Plans.{IsPlanDue}
 use Rattle.commands.specs.Replays.{IsRelogDue, IsReplayDue}
 use Rattle.commands.specs.Runs.{IsRunDue, IsLiveDue, IsVisiDue, IsStressDue}
-use Rattle.commands.specs.Sights.{Sight}
+use Rattle.commands.specs.Sights.{FileReading}
 use Rattle.commands.specs.declared.texts.Texts.{Texts}
 
 -- what is due for a request; words that are no command have none
-abbrev pub IsDueFor : Option Request → Sight → Step Texts
+abbrev pub IsDueFor : Option Request → FileReading → Step Texts
 IsDueFor None sees texts = texts ≡ Err Usage
 IsDueFor (Some (run r)) sees texts = IsRunDue r sees texts
 IsDueFor (Some (live r)) sees texts = IsLiveDue r sees texts
@@ -31,17 +31,17 @@ IsDueFor (Some (advise name)) sees texts = IsAdviseDue name sees texts
 IsDueFor (Some (direct r)) sees texts = IsDirectDue r sees texts
 
 -- What is due for words and what was seen of files: the texts that were asked for, or the first fault.
-abbrev pub IsDue : List (List ℕ) → Sight → Step Texts
+abbrev pub IsDue : List (List ℕ) → FileReading → Step Texts
 IsDue words sees = IsDueFor (request_of words) sees
 
 -- ---- how many answers may be due
 
 -- two answers are both texts, or the same
-abbrev pub AreAlike : Result Texts Fault → Result Texts Fault → Type 0
-AreAlike (Ok texts) (Ok others) = Unit {0}
-AreAlike (Ok texts) (Err fault) = ⊥
-AreAlike (Err fault) (Ok texts) = ⊥
-AreAlike (Err fault) (Err other) = fault ≡ other
+abbrev pub AreLike : Result Texts Fault → Result Texts Fault → Type 0
+AreLike (Ok texts) (Ok others) = Unit {0}
+AreLike (Ok texts) (Err fault) = ⊥
+AreLike (Err fault) (Ok texts) = ⊥
+AreLike (Err fault) (Err other) = fault ≡ other
 
 -- the request is for a run that workers share
 abbrev pub is_live : Option Request → Bool
@@ -50,5 +50,5 @@ is_live asked = false
 
 -- under `live` they are alike, otherwise the same
 abbrev pub AreOne : Bool → Result Texts Fault → Result Texts Fault → Type 0
-AreOne true a b = AreAlike a b
+AreOne true a b = AreLike a b
 AreOne false a b = a ≡ b

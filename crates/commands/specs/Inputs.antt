@@ -16,7 +16,7 @@ use Rattle.refusals.specs.declared.fault.Fault.TheVariants.{BadProgram, BadConf}
 use Rattle.refusals.specs.declared.program.ProgramFault.TheVariants.{Elf, Asm, TooLong}
 use Rattle.rv_asm.specs.Assembly.{assembled}
 use Rattle.rv_asm.specs.declared.fault.AsmFault.{AsmFault}
-use Rattle.commands.specs.Sights.{Sight, IsContent}
+use Rattle.commands.specs.Sights.{FileReading, IsContent}
 use Rattle.commands.specs.declared.inputs.Inputs.{Inputs}
 
 -- ---- programs
@@ -52,26 +52,26 @@ MeansConf text (Err fault) =
 -- ---- what commands read
 
 -- what a program's file has, at most 33,554,432 bytes
-abbrev pub IsProgramContent : Sight → List ℕ → Step (List ℕ)
+abbrev pub IsProgramContent : FileReading → List ℕ → Step (List ℕ)
 IsProgramContent sees = IsContent sees 33554432 (BadProgram TooLong)
 
 -- the program of a name
-abbrev pub IsProgram : Sight → List ℕ → Step Image
-IsProgram sees name = Then (IsProgramContent sees name) (λ bytes image. image ≡ image_of bytes)
+abbrev pub IsProgramOfFile : FileReading → List ℕ → Step Image
+IsProgramOfFile sees name = Then (IsProgramContent sees name) (λ bytes image. image ≡ image_of bytes)
 
 -- the ELF file of the assembly text of a name
-abbrev pub IsElfFile : Sight → List ℕ → Step (List ℕ)
+abbrev pub IsElfFile : FileReading → List ℕ → Step (List ℕ)
 IsElfFile sees name = Then (IsProgramContent sees name) (λ bytes file. file ≡ file_of bytes)
 
 -- what a configuration's file has, at most 1,048,576 bytes
-abbrev pub IsConfContent : Sight → List ℕ → Step (List ℕ)
+abbrev pub IsConfContent : FileReading → List ℕ → Step (List ℕ)
 IsConfContent sees = IsContent sees 1048576 (BadConf (fault_at 0 0 TooLongConf))
 
 -- the configuration of a name
-abbrev pub IsConfiguration : Sight → List ℕ → Step Conf
+abbrev pub IsConfiguration : FileReading → List ℕ → Step Conf
 IsConfiguration sees name = Then (IsConfContent sees name) MeansConf
 
 -- first the program, then the configuration
-abbrev pub AreInputs : Sight → List ℕ → List ℕ → Step Inputs
+abbrev pub AreInputs : FileReading → List ℕ → List ℕ → Step Inputs
 AreInputs sees program conf =
-    Then (IsProgram sees program) (λ image. Then (IsConfiguration sees conf) (λ c inputs. inputs ≡ Ok (record { image = image; conf = c })))
+    Then (IsProgramOfFile sees program) (λ image. Then (IsConfiguration sees conf) (λ c inputs. inputs ≡ Ok (record { image = image; conf = c })))

@@ -14,7 +14,7 @@ use Rattle.refusals.specs.declared.fault.Fault.TheVariants.{BadLog}
 use Rattle.refusals.specs.declared.log.LogCause.TheVariants.{NotRunnable, OtherOwns, TooLong, Unfinished}
 use Rattle.whole_run.specs.declared.misfit.Misfit.{Misfit}
 use Rattle.whole_run.specs.declared.misfit.Misfit.TheVariants as misfit
-use Rattle.commands.specs.Sights.{Sight, IsContent}
+use Rattle.commands.specs.Sights.{FileReading, IsContent}
 use Rattle.commands.specs.declared.logs.Log.{Log}
 
 -- the version of a log's bytes
@@ -34,11 +34,11 @@ abbrev pub MeansLog : List ℕ → Step Log
 MeansLog bytes log = log ≡ or_bad_log bytes (meaning_of bytes)
 
 -- what a log's file has, at most 268,435,496 bytes
-abbrev pub IsLogContent : Sight → List ℕ → Step (List ℕ)
+abbrev pub IsLogContent : FileReading → List ℕ → Step (List ℕ)
 IsLogContent sees = IsContent sees 268435496 (BadLog 268435496 TooLong)
 
 -- the log of a name
-abbrev pub IsLog : Sight → List ℕ → Step Log
+abbrev pub IsLog : FileReading → List ℕ → Step Log
 IsLog sees name = Then (IsLogContent sees name) MeansLog
 
 -- Why a log's quanta are no whole run. The entry of a number begins after that many others; where they end too early, that is at

@@ -21,7 +21,7 @@ use Rattle.resource_tree.specs.Resources.{Resources}
 use Rattle.commands.specs.Found.{IsFound}
 use Rattle.commands.specs.Inputs.{AreInputs}
 use Rattle.commands.specs.Output.{output}
-use Rattle.commands.specs.Sights.{Sight}
+use Rattle.commands.specs.Sights.{FileReading}
 use Rattle.commands.specs.declared.finding.Found.{Found}
 use Rattle.commands.specs.declared.texts.Texts.{Texts}
 
@@ -42,16 +42,16 @@ abbrev pub IsSelected : Resources → List ℕ → Step Focus
 IsSelected t text focus = (o : Option Focus) × Selects t text o × (focus ≡ or_bad_focus o)
 
 -- the text of a plan of a metric at a focus, or why there is none
-abbrev pub IsPlanned : List ℕ → List ℕ → Result Plan PlanFault → Step Texts
-IsPlanned metric focus (Ok plan) texts = texts ≡ Ok (output (plan_text metric focus (predicted plan) plan))
-IsPlanned metric focus (Err (NoConstraint axis)) texts = texts ≡ Err (BadPick metric focus (cause.NoConstraint axis))
-IsPlanned metric focus (Err (TooManySites n)) texts = texts ≡ Err (BadPick metric focus (cause.TooManySites n))
-IsPlanned metric focus (Err (TooManyStmts at)) texts = texts ≡ Err (BadPick metric focus (cause.TooManyStmts at))
+abbrev pub IsPlanText : List ℕ → List ℕ → Result Plan PlanFault → Step Texts
+IsPlanText metric focus (Ok plan) texts = texts ≡ Ok (output (plan_text metric focus (predicted plan) plan))
+IsPlanText metric focus (Err (NoConstraint axis)) texts = texts ≡ Err (BadPick metric focus (cause.NoConstraint axis))
+IsPlanText metric focus (Err (TooManySites n)) texts = texts ≡ Err (BadPick metric focus (cause.TooManySites n))
+IsPlanText metric focus (Err (TooManyStmts at)) texts = texts ≡ Err (BadPick metric focus (cause.TooManyStmts at))
 
 -- the plan of a metric at a focus
 abbrev pub IsPlanAt : List ℕ → Found → Metric → Focus → Step Texts
 IsPlanAt name found m focus =
-    IsPlanned name (canonical found.tree focus) (plan_of found.checked.constraints m focus found.tree found.procs found.points)
+    IsPlanText name (canonical found.tree focus) (plan_of found.checked.constraints m focus found.tree found.procs found.points)
 
 -- The plan of the named metric at the focus of the text: first the name is looked for, then the focus.
 abbrev pub IsPlan : PlanRequest → Found → Step Texts
@@ -60,5 +60,5 @@ IsPlan p found =
     (λ m. Then (IsSelected found.tree p.focus) (IsPlanAt p.metric found m))
 
 -- what is due for words that ask for a plan
-abbrev pub IsPlanDue : PlanRequest → Sight → Step Texts
+abbrev pub IsPlanDue : PlanRequest → FileReading → Step Texts
 IsPlanDue p sees = Then (AreInputs sees p.program p.conf) (λ i. Then (IsFound i.image p.harts i.conf) (IsPlan p))

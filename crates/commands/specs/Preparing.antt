@@ -10,5 +10,5 @@ inputs_in (Ok prepared) = Ok prepared.inputs
 inputs_in (Err fault) = Err fault
 
 -- what was prepared is what a session is given
-abbrev pub Gives : Step Inputs → Step Prepared
-Gives given prepared = given (inputs_in prepared)
+abbrev pub IsPreparedOf : Step Inputs → Step Prepared
+IsPreparedOf given prepared = given (inputs_in prepared)

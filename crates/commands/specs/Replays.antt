@@ -16,7 +16,7 @@ use Rattle.commands.specs.Given.{inputs_with}
 use Rattle.commands.specs.Inputs.{AreInputs}
 use Rattle.commands.specs.Logs.{misfit_fault, IsLog}
 use Rattle.commands.specs.Runs.{IsOpened, report_alone}
-use Rattle.commands.specs.Sights.{Sight}
+use Rattle.commands.specs.Sights.{FileReading}
 use Rattle.commands.specs.declared.finding.Found.{Found}
 use Rattle.commands.specs.declared.inputs.Inputs.{Inputs as Read}
 use Rattle.commands.specs.declared.logs.Log.{Log}
@@ -39,9 +39,9 @@ abbrev pub IsReplayOf : Log → Read → Step Texts
 IsReplayOf log i = Then (IsFound i.image log.settings.harts i.conf) (IsReplay log i.image)
 
 -- The program and the configuration are read, and then the log, whose settings, the start among them, are the run's.
-abbrev pub IsReplayDue : ReplayRequest → Sight → Step Texts
+abbrev pub IsReplayDue : ReplayRequest → FileReading → Step Texts
 IsReplayDue r sees = Then (AreInputs sees r.program r.conf) (λ i. Then (IsLog sees r.log) (λ log. IsReplayOf log i))
 
 -- the log of a name, as it is written now
-abbrev pub IsRelogDue : List ℕ → Sight → Step Texts
+abbrev pub IsRelogDue : List ℕ → FileReading → Step Texts
 IsRelogDue name sees = Then (IsLog sees name) (λ log texts. texts ≡ Ok (output (spelled Two log.settings log.quanta)))

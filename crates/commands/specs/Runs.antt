@@ -11,7 +11,7 @@ use Rattle.refusals.specs.Refusals.{Step, Then}
 use Rattle.session.specs.Parts.{parts_of}
 use Rattle.session_spec.specs.Inputs.{Inputs}
 use Rattle.session_spec.specs.Opening.{bad_pick}
-use Rattle.session_spec.specs.Work.{closed, work}
+use Rattle.session_spec.specs.Work.{final_state, after_quanta}
 use Rattle.session_spec.specs.declared.data.RefusedWish.{RefusedWish}
 use Rattle.stress_run.specs.Configuration.{configuration_text}
 use Rattle.stress_run.specs.Program.{program_text}
@@ -25,11 +25,11 @@ use Rattle.commands.specs.Output.{output}
 use Rattle.commands.specs.Found.{IsFound}
 use Rattle.commands.specs.Given.{inputs_with, pick_fault}
 use Rattle.commands.specs.Inputs.{AreInputs}
-use Rattle.commands.specs.Sights.{Sight}
+use Rattle.commands.specs.Sights.{FileReading}
 use Rattle.commands.specs.declared.texts.Texts.{Texts}
 
 -- A program and a configuration, as a session is given them.
-abbrev pub IsPrepared : SessionRequest → Sight → Step Inputs
+abbrev pub IsPrepared : SessionRequest → FileReading → Step Inputs
 IsPrepared r sees =
     Then (AreInputs sees r.program r.conf) (λ read.
     Then (IsFound read.image r.settings.harts read.conf) (λ found i. i ≡ Ok (inputs_with read.image found r.settings)))
@@ -62,7 +62,7 @@ abbrev pub IsSession : Order → (Inputs → List Quantum → Texts) → Inputs 
 IsSession InOrder texts_of i = IsOpened (bad_pick i) i (AreTexts InOrder texts_of i)
 
 -- the session that is asked for
-abbrev pub IsSessionOf : SessionRequest → Sight → Order → (Inputs → List Quantum → Texts) → Step Texts
+abbrev pub IsSessionOf : SessionRequest → FileReading → Order → (Inputs → List Quantum → Texts) → Step Texts
 IsSessionOf r sees InOrder texts_of = Then (IsPrepared r sees) (IsSession InOrder texts_of)
 
 -- the report of these quanta, and nothing for the log
@@ -75,10 +75,10 @@ report_alone i quanta = output (report_of i quanta (skipped_of i.image))
 abbrev pub report_and_log : Inputs → List Quantum → Texts
 report_and_log i quanta = record { out = report_of i quanta (skipped_of i.image); log = log_of i quanta }
 
-abbrev pub IsRunDue : RunRequest → Sight → Step Texts
+abbrev pub IsRunDue : RunRequest → FileReading → Step Texts
 IsRunDue r sees = IsSessionOf r.session sees (IsInOrder r.order) report_and_log
 
-abbrev pub IsLiveDue : LiveRequest → Sight → Step Texts
+abbrev pub IsLiveDue : LiveRequest → FileReading → Step Texts
 IsLiveDue r sees = IsSessionOf r.session sees (IsByWorkers r.workers r.quantum) report_and_log
 
 -- ---- visi
@@ -87,7 +87,7 @@ IsLiveDue r sees = IsSessionOf r.session sees (IsByWorkers r.workers r.quantum) 
 abbrev pub views_of : ℕ → Inputs → List Quantum → Texts
 views_of views i quanta = output (visi_text (shown_of i quanta) (replicate views (feed_of i quanta)))
 
-abbrev pub IsVisiDue : VisiRequest → Sight → Step Texts
+abbrev pub IsVisiDue : VisiRequest → FileReading → Step Texts
 IsVisiDue r sees = IsSessionOf r.session sees (IsInOrder r.order) (views_of r.views)
 
 -- ---- stress
@@ -101,7 +101,7 @@ stress_session = record {
 }
 
 -- what the two files have
-abbrev pub stress_sight : StressRequest → Sight
+abbrev pub stress_sight : StressRequest → FileReading
 stress_sight r name content =
     content ≡ Ok (if bytes_eq name (codes "program") then program_text r.procs r.seed else configuration_text r.procs)
 
@@ -111,7 +111,7 @@ stress_order r = record { seed = r.seed; quantum = 50 }
 
 -- the line that sums up a run of these quanta
 abbrev pub summary_of : ℕ → Inputs → List Quantum → Texts
-summary_of procs i quanta = output (summary_text procs (parts_of i (closed i (work i quanta))))
+summary_of procs i quanta = output (summary_text procs (parts_of i (final_state i (after_quanta i quanta))))
 
 abbrev pub IsStressDue : StressRequest → Step Texts
 IsStressDue r = IsSessionOf stress_session (stress_sight r) (IsInOrder (stress_order r)) (summary_of r.procs)

@@ -9,20 +9,20 @@ use Rattle.refusals.specs.declared.refusal.Refusal.{Refusal}
 use Rattle.refusals.specs.declared.refusal.Refusal.TheVariants as refusal
 
 -- the bytes of the file of a name, or that it could not be read
-abbrev pub Sight : Type 1
-Sight = List ℕ → Step (List ℕ)
+abbrev pub FileReading : Type 1
+FileReading = List ℕ → Step (List ℕ)
 
 -- A file was read to its end, and what it has are bytes; or a reading failed, and the name's count of faults rose.
-abbrev pub seen : (List ℕ → Holding) → (List ℕ → ℕ) → (List ℕ → ℕ) → Sight
-seen holds before now name (Ok bytes) = IsWhole (holds name) bytes × IsBytes bytes
-seen holds before now name (Err fault) = (fault ≡ FileFault name) × Rose (before name) (now name)
+abbrev pub file_read : (List ℕ → Holding) → (List ℕ → ℕ) → (List ℕ → ℕ) → FileReading
+file_read holds before now name (Ok bytes) = IsWhole (holds name) bytes × IsBytes bytes
+file_read holds before now name (Err fault) = (fault ≡ FileFault name) × Rose (before name) (now name)
 
 -- the bytes, or this fault where there are more than a number
 abbrev pub limited : ℕ → Fault → List ℕ → Result (List ℕ) Fault
 limited most too_long bytes = if nat_lt most (length bytes) then Err too_long else Ok bytes
 
 -- what the file of a name has, if its bytes are at most a number
-abbrev pub IsContent : Sight → ℕ → Fault → List ℕ → Step (List ℕ)
+abbrev pub IsContent : FileReading → ℕ → Fault → List ℕ → Step (List ℕ)
 IsContent sees most too_long name = Then (sees name) (λ bytes content. content ≡ limited most too_long bytes)
 
 -- the counts of faults after a fault: none rose but that of the file which the fault names

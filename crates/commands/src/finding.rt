@@ -5,7 +5,7 @@ ghost use Rattle.std.specs.List.{AllByRecursion};
 ghost use Rattle.std.specs.List.Sorted.{IsStrictlyIncreasing};
 ghost use Rattle.code_points.specs.Procedures.{procedures_of, skipped_of, AreModulesGood, AreProcsOf};
 ghost use Rattle.mdl_ast.specs.Small.{HasSmall};
-ghost use Rattle.mdl_check.specs.Sound.{IsSound};
+ghost use Rattle.mdl_check.specs.Sound.{IsSoundCheck};
 ghost use Rattle.mdl_check.specs.Placed.{placed_items};
 ghost use Rattle.mdl_shipped.specs.Shipped.{shipped_conf};
 ghost use Rattle.mdl_plan.specs.Fitting.{HasLowObjects};
@@ -57,7 +57,7 @@ fn checked(alloc: Global, conf: &Conf, shipped: &Conf, tree: &Tree) -> Result<Ch
     requires small { AllByRecursion HasSmall conf.now.items }
     ensures checked { Comes result (IsCheck tree.now conf.now) }
     ensures few { IfOk result (λ checked. length checked.metrics < 2 ^ 32) }
-    ensures sound { IfOk result IsSound }
+    ensures sound { IfOk result IsSoundCheck }
 {
     match check(alloc, conf, shipped, tree) {
         Ok(checked) => Ok(checked),
@@ -103,7 +103,7 @@ pub fn find(alloc: Global, image: &Image, harts: u32, conf: &Conf) -> Result<Fou
     ensures metrics { IfOk result (λ found. length found.checked.metrics < 2 ^ 32) }
     ensures points { IfOk result (λ found. length found.points < 2 ^ 32) }
     // With this, each plan is small, and the tool's code measures it.
-    ensures sound { IfOk result (λ found. IsSound found.checked) }
+    ensures sound { IfOk result (λ found. IsSoundCheck found.checked) }
     ensures low { IfOk result (λ found. HasLowObjects found.tree) }
     ensures ascending { IfOk result (λ found. IsStrictlyIncreasing (map (λ p. p.at) found.points)) }
     // With this, a session takes it.

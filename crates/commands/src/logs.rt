@@ -2,14 +2,14 @@
 
 ghost use Rattle.std.specs.Prelude.{◌≡◌, ◌≤◌, IfOk, length};
 ghost use Rattle.commands.specs.Logs.{misfit_fault, version_in, IsLog, MeansLog};
-ghost use Rattle.commands.specs.Sights.{seen, Looks};
+ghost use Rattle.commands.specs.Sights.{file_read, Looks};
 ghost use Rattle.pn_types.specs.declared.limits.TheConstants.{MAX_QUANTA};
 ghost use Rattle.quanta_log.specs.Fields.{entry_len, head_len, log_len};
 ghost use Rattle.quanta_log.specs.Meaning.{begins_as};
 ghost use Rattle.quanta_log.specs.Spelling.{CanSpell};
 ghost use Rattle.quanta_log.specs.declared.version.Version.TheVariants as version;
 ghost use Rattle.refusals.specs.Refusals.{Comes};
-ghost use Rattle.whole_run.specs.Replayed.{IsWithin};
+ghost use Rattle.whole_run.specs.Replayed.{NamesQuantum};
 
 use crate::files::read_file;
 use outside::Files;
@@ -73,7 +73,7 @@ fn log_of(alloc: Global, bytes: &[u8]) -> Result<Log, Refusal>
 ///
 /// `Refusal::NoMemory` where memory runs out, or the first fault that is due.
 pub fn read_log<F: Files>(alloc: Global, files: &mut F, name: &str) -> Result<Log, Refusal>
-    ensures log { Comes result (IsLog (seen (F.holds files.old) (F.faults files.old) (F.faults files.new)) name.now) }
+    ensures log { Comes result (IsLog (file_read (F.holds files.old) (F.faults files.old) (F.faults files.new)) name.now) }
     ensures spelled { IfOk result (λ log. CanSpell version.Two log.settings log.quanta) }
     ensures looks { Looks F.holds F.faults files.old files.new result }
 {
@@ -104,7 +104,7 @@ fn entry_place(version: Version, number: u64) -> u64
 /// Returns why a log's quanta are no whole run.
 pub fn misfit_fault(log: &Log, misfit: Misfit) -> Fault
     requires few { length log.now.quanta ≤ MAX_QUANTA }
-    requires within { IsWithin (length log.now.quanta) misfit }
+    requires within { NamesQuantum (length log.now.quanta) misfit }
     ensures { result ≡ misfit_fault log.now misfit }
 {
     let version = log.version;

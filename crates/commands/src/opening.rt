@@ -2,7 +2,7 @@
 
 ghost use Rattle.std.specs.Prelude.{◌≡◌};
 ghost use Rattle.commands.specs.Given.{IsPickFault};
-ghost use Rattle.refusals.specs.Refusals.{Refuses};
+ghost use Rattle.refusals.specs.Refusals.{RefusalIs};
 ghost use Rattle.session.specs.Sessions.{IsStartFault};
 ghost use Rattle.session_spec.specs.Inputs.{Inputs as inputs};
 
@@ -19,7 +19,7 @@ pub fn bad_pick(metric: Text, focus: Text, cause: PickCause) -> Refusal
 
 /// Returns the refusal where a session can't be opened: that of the first wish at tick 0 that is refused, or `NoMemory`.
 pub fn unopened(fault: StartFault) -> Refusal
-    ensures { (i : inputs) → IsStartFault i fault → Refuses result (IsPickFault i) }
+    ensures { (i : inputs) → IsStartFault i fault → RefusalIs result (IsPickFault i) }
 {
     match fault {
         StartFault::NoMemory => Refusal::NoMemory,

@@ -5,9 +5,9 @@ ghost use Rattle.code_points.specs.Procedures.{AreProcsOf};
 ghost use Rattle.command_words.specs.Asked.{asked_plan};
 ghost use Rattle.command_words.specs.Requests.{HasRanges, plan};
 ghost use Rattle.mdl_ast.specs.declared.metric.Metric.{Metric};
-ghost use Rattle.mdl_check.specs.Sound.{IsSound};
+ghost use Rattle.mdl_check.specs.Sound.{IsSoundCheck};
 ghost use Rattle.commands.specs.Plans.{metric_named, IsSelected, IsPlanAt, IsPlan, IsPlanDue};
-ghost use Rattle.commands.specs.Sights.{seen, Looks};
+ghost use Rattle.commands.specs.Sights.{file_read, Looks};
 ghost use Rattle.pn_types.specs.Images.{IsImage};
 ghost use Rattle.refusals.specs.Refusals.{Comes};
 
@@ -62,7 +62,7 @@ fn plan_at(
     requires procs { length found.procs < 2 ^ 32 }
     requires points { length found.points < 2 ^ 32 }
     requires number { number < length found.checked.metrics }
-    requires sound { IsSound found.checked }
+    requires sound { IsSoundCheck found.checked }
     ensures { (m : Metric) → slice_get found.checked.metrics number ≡ Some m → Comes result (IsPlanAt name.now found m focus.now) }
 {
     let text = found.tree.focus_text(alloc, focus)?;
@@ -92,7 +92,7 @@ fn plan_found(alloc: Global, request: &PlanRequest<'_>, found: Found) -> Result<
     requires procs { length found.procs < 2 ^ 32 }
     requires points { length found.points < 2 ^ 32 }
     requires metrics { length found.checked.metrics < 2 ^ 32 }
-    requires sound { IsSound found.checked }
+    requires sound { IsSoundCheck found.checked }
     ensures { Comes result (IsPlan (asked_plan request.now) found) }
 {
     let metrics = found.checked.metrics.as_slice();
@@ -114,7 +114,7 @@ pub fn plan<F: Files>(
     files: &mut F,
 ) -> Result<Texts, Refusal>
     requires { HasRanges (plan (asked_plan request.now)) }
-    ensures due { Comes result (IsPlanDue (asked_plan request.now) (seen (F.holds files.old) (F.faults files.old) (F.faults files.new))) }
+    ensures due { Comes result (IsPlanDue (asked_plan request.now) (file_read (F.holds files.old) (F.faults files.old) (F.faults files.new))) }
     ensures looks { Looks F.holds F.faults files.old files.new result }
 {
     let inputs = read_inputs(alloc, files, request.program, request.conf)?;

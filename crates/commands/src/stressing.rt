@@ -4,7 +4,7 @@ ghost use Rattle.std.specs.Prelude.{◌≡◌, IfOk, codes};
 ghost use Rattle.command_words.specs.Asked.{asked_session, asked_stress};
 ghost use Rattle.command_words.specs.Requests.{IsOrderInRange};
 ghost use Rattle.outside.specs.SureFiles.{content_of};
-ghost use Rattle.commands.specs.Preparing.{Gives};
+ghost use Rattle.commands.specs.Preparing.{IsPreparedOf};
 ghost use Rattle.commands.specs.Runs.{IsInOrder, IsPrepared, IsSession, IsStressDue, stress_session, stress_sight, summary_of};
 ghost use Rattle.refusals.specs.Refusals.{Comes};
 ghost use Rattle.session.specs.Given.{AreGiven};
@@ -56,7 +56,7 @@ fn made_files(alloc: Global, request: StressRequest) -> Result<SureFiles, NoMemo
 
 /// Returns what the session is given.
 fn prepare_made(alloc: Global, request: StressRequest) -> Result<Prepared, Refusal>
-    ensures prepared { Comes result (Gives (IsPrepared stress_session (stress_sight (asked_stress request)))) }
+    ensures prepared { Comes result (IsPreparedOf (IsPrepared stress_session (stress_sight (asked_stress request)))) }
     ensures given { IfOk result (λ prepared. AreGiven prepared.inputs) }
 {
     let mut files = made_files(alloc, request)?;

@@ -6,13 +6,13 @@ use Rattle.mdl_ast.specs.declared.items.Item.TheVariants.{Include, Sync, Metric,
 use Rattle.mdl_ast.specs.declared.items.Hypothesis.{Hypothesis as TheHypothesis}
 use Rattle.mdl_ast.specs.declared.items.Include.{Include as TheInclude}
 use Rattle.resource_tree.specs.Resources.{Resources}
-use Rattle.mdl_check.specs.Placed.{PlacedItem, Entry, placed, entry, placed_items}
+use Rattle.mdl_check.specs.Placed.{PlacedItem, Entry, placed_item, entry, placed_items}
 use Rattle.mdl_check.specs.Rules.{is_include}
 use Rattle.mdl_check.specs.Checking.{first_fault, HasFocus, HaveFoci, AreEntries, placed_of, checked_of, prefixes_of}
 use Rattle.directives.specs.declared.directive.Directive.{Directive}
 use Rattle.directives.specs.declared.directive.DirectiveAct.{DirectiveAct}
 use Rattle.directives.specs.declared.fault.DirectiveKind.{DirectiveKind}
-use Rattle.directives.specs.Acts.{expanded, kind_of, acted, go_on, directed, applied}
+use Rattle.directives.specs.Acts.{expanded, kind_of, items_after_act, go_on, directed, applied}
 use Rattle.directives.specs.Applying.{IsAccepted}
 use Rattle.directives.proofs.Stripped.{tally, strip, stripped, lift, named, is_lost, Fine, hyps_of, count_stripped}
 use Rattle.directives.proofs.Faultless.{Each, each_from, each_to, is_other, others, others_each}
@@ -122,8 +122,8 @@ placed_length : (es : List Entry) → length (map placed_of es) ≡ length es
 placed_length [] = refl
 placed_length (e ∷ es) = ap suc (placed_length es)
 
-others_hide : (line : ℕ) (i : TheInclude) → i.metrics ≡ false → keep (placed line (Include i)) ≡ []
-others_hide line i m = ap (λ (b : Bool). cond b (placed line (Include i) ∷ []) []) m
+others_hide : (line : ℕ) (i : TheInclude) → i.metrics ≡ false → keep (placed_item line (Include i)) ≡ []
+others_hide line i m = ap (λ (b : Bool). cond b (placed_item line (Include i) ∷ []) []) m
 
 ready_first : (t : Resources) (shipped items : List Item) (es : List Entry) → AreEntries t (placed_items shipped items) es → Each es [] es → Ready shipped (others es) (length es) (prefixes_of shipped items) (expanded shipped items)
 ready_first t shipped items es a f =
@@ -140,12 +140,12 @@ ready_first t shipped items es a f =
       begins = spread_same placed_sync (λ l h. refl) (λ l i m. refl) shipped items;
     }
 
-hidden_placed : {B : Type 0} (g : PlacedItem → List B) → ((l : ℕ) (h : TheHypothesis) → g (placed l (Hypothesis h)) ≡ []) → (shipped : List Item) (act : DirectiveAct) (items : List Item) →
-    flat_map g (placed_items shipped (acted act items)) ≡ flat_map g (placed_items shipped items)
+hidden_placed : {B : Type 0} (g : PlacedItem → List B) → ((l : ℕ) (h : TheHypothesis) → g (placed_item l (Hypothesis h)) ≡ []) → (shipped : List Item) (act : DirectiveAct) (items : List Item) →
+    flat_map g (placed_items shipped (items_after_act act items)) ≡ flat_map g (placed_items shipped items)
 hidden_placed g hyp shipped act items =
-    placed_by_item g shipped (acted act items) ∙ hidden_acted (by_item g shipped) (λ h. ap (λ (l : List _). l ++ []) (hyp h.line h)) act items ∙ sym (placed_by_item g shipped items)
+    placed_by_item g shipped (items_after_act act items) ∙ hidden_acted (by_item g shipped) (λ h. ap (λ (l : List _). l ++ []) (hyp h.line h)) act items ∙ sym (placed_by_item g shipped items)
 
-ready_more : (shipped : List Item) (o : List Entry) (n : ℕ) (prefixes : List (List ℕ)) (act : DirectiveAct) (items : List Item) → Ready shipped o n prefixes items → Ready shipped o n prefixes (acted act items)
+ready_more : (shipped : List Item) (o : List Entry) (n : ℕ) (prefixes : List (List ℕ)) (act : DirectiveAct) (items : List Item) → Ready shipped o n prefixes items → Ready shipped o n prefixes (items_after_act act items)
 ready_more shipped o n prefixes act items r =
     let includes = ap length (hidden_placed placed_include (λ l h. refl) shipped act items) in
     record {
@@ -160,9 +160,9 @@ ready_more shipped o n prefixes act items r =
 ready_all : (shipped : List Item) (o : List Entry) (n : ℕ) (prefixes : List (List ℕ)) (ds : List Directive) (items new : List Item) → Ready shipped o n prefixes items → directed ds items ≡ Ok new → Ready shipped o n prefixes new
 unfolding directed
 ready_all shipped o n prefixes [] items new r e = let same : items ≡ new = cc in subst (Ready shipped o n prefixes) same r
-ready_all shipped o n prefixes (d ∷ ds) items new r e = by (kind_of d.act items) e (λ k. ready_all shipped o n prefixes ds (acted d.act items) new (ready_more shipped o n prefixes d.act items r) k)
+ready_all shipped o n prefixes (d ∷ ds) items new r e = by (kind_of d.act items) e (λ k. ready_all shipped o n prefixes ds (items_after_act d.act items) new (ready_more shipped o n prefixes d.act items r) k)
   where
-    by : (k : Option DirectiveKind) → go_on (directed ds) d items k ≡ Ok new → (directed ds (acted d.act items) ≡ Ok new → Ready shipped o n prefixes new) → Ready shipped o n prefixes new
+    by : (k : Option DirectiveKind) → go_on (directed ds) d items k ≡ Ok new → (directed ds (items_after_act d.act items) ≡ Ok new → Ready shipped o n prefixes new) → Ready shipped o n prefixes new
     by None h f = f h
     by (Some kind) h f = absurd cc
 

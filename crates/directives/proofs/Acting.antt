@@ -8,7 +8,7 @@ use Rattle.mdl_ast.specs.declared.items.Hypothesis.{Hypothesis as TheHypothesis}
 use Rattle.mdl_check.specs.Placed.{Entry}
 use Rattle.mdl_check.specs.Rules.{is_axis}
 use Rattle.directives.specs.Hypotheses.{is_named}
-use Rattle.directives.specs.Acts.{is_under, pruned, changed, without_axis, with_threshold, with_first, acted}
+use Rattle.directives.specs.Acts.{is_under, pruned, with_hypothesis, without_axis, with_threshold, with_first, items_after_act}
 use Rattle.directives.specs.declared.directive.DirectiveAct.{DirectiveAct}
 use Rattle.directives.specs.declared.directive.DirectiveAct.TheVariants.{Prune, PruneAxis, Threshold, First}
 use Rattle.directives.proofs.Stripped.{tally, strip, stripped, named, misses, is_lost, Fine}
@@ -70,14 +70,14 @@ axes_stay axis axes h = ap not (kept axes (yes (list_all is_axis axes) h))
 rounds_fine : (o : List Entry) (n : ℕ) (name : List ℕ) (items : List Item) → Fine o n (stripped items) → pruned_in_rounds name items ≡ pruned name items
 rounds_fine o n name items f = rounds_pruned name items f.once (orphans_lost items ∙ f.parents)
 
-pub fine_acted : (o : List Entry) (n : ℕ) (act : DirectiveAct) (items : List Item) → Fine o n (stripped items) → Fine o n (stripped (acted act items))
+pub fine_acted : (o : List Entry) (n : ℕ) (act : DirectiveAct) (items : List Item) → Fine o n (stripped items) → Fine o n (stripped (items_after_act act items))
 fine_acted o n (Prune name) items f = fine_part o n (stripped (pruned name items)) (stripped items) (part_pruned name items) (sym (orphans_lost (pruned name items)) ∙ subst Homeless (rounds_fine o n name items f) (rounds_done name items)) f
 fine_acted o n (PruneAxis name axis) items f = fine_changed name (without_axis axis) o n items (λ h. refl) (λ h. refl) (λ h. refl) (λ h k. axes_stay axis h.axes k) f
 fine_acted o n (Threshold name threshold) items f = fine_changed name (with_threshold threshold) o n items (λ h. refl) (λ h. refl) (λ h. refl) (λ h k. k) f
 fine_acted o n (First name) items f =
     fine_part o n (stripped (with_first name items)) (stripped items) (λ q. omega (arith, tally_first name items q)) (lost_first name items f.parents) f
 
-pub few_acted : (act : DirectiveAct) (items : List Item) → length (stripped (acted act items)) ≤ length (stripped items)
+pub few_acted : (act : DirectiveAct) (items : List Item) → length (stripped (items_after_act act items)) ≤ length (stripped items)
 few_acted (Prune name) items = part_few (stripped (pruned name items)) (stripped items) (part_pruned name items)
 few_acted (PruneAxis name axis) items = changed_few name (without_axis axis) items
 few_acted (Threshold name threshold) items = changed_few name (with_threshold threshold) items
@@ -118,7 +118,7 @@ module _ {B : Type 0} (f : Item → List B) (hyp : (h : TheHypothesis) → f (Hy
   unfolding pruned
   hidden_pruned name xs = hidden_filter (λ item. not (is_under xs (length xs) name item)) (not_under xs (length xs) name) xs
 
-  hidden_change : (name : List ℕ) (change : TheHypothesis → TheHypothesis) (xs : List Item) → flat_map f (map (changed name change) xs) ≡ flat_map f xs
+  hidden_change : (name : List ℕ) (change : TheHypothesis → TheHypothesis) (xs : List Item) → flat_map f (map (with_hypothesis name change) xs) ≡ flat_map f xs
   hidden_change name change [] = refl
   hidden_change name change (Include i ∷ xs) = ap (λ (l : List B). f (Include i) ++ l) (hidden_change name change xs)
   hidden_change name change (Sync s ∷ xs) = ap (λ (l : List B). f (Sync s) ++ l) (hidden_change name change xs)
@@ -126,8 +126,8 @@ module _ {B : Type 0} (f : Item → List B) (hyp : (h : TheHypothesis) → f (Hy
   hidden_change name change (Constraint c ∷ xs) = ap (λ (l : List B). f (Constraint c) ++ l) (hidden_change name change xs)
   hidden_change name change (Hypothesis x ∷ xs) = by (bytes_eq name x.name) (hidden_change name change xs)
     where
-      by : (b : Bool) → flat_map f (map (changed name change) xs) ≡ flat_map f xs → f (cond b (Hypothesis (change x)) (Hypothesis x)) ++ flat_map f (map (changed name change) xs) ≡ f (Hypothesis x) ++ flat_map f xs
-      by true k = ap (λ (l : List B). l ++ flat_map f (map (changed name change) xs)) (hyp (change x) ∙ sym (hyp x)) ∙ ap (λ (l : List B). f (Hypothesis x) ++ l) k
+      by : (b : Bool) → flat_map f (map (with_hypothesis name change) xs) ≡ flat_map f xs → f (cond b (Hypothesis (change x)) (Hypothesis x)) ++ flat_map f (map (with_hypothesis name change) xs) ≡ f (Hypothesis x) ++ flat_map f xs
+      by true k = ap (λ (l : List B). l ++ flat_map f (map (with_hypothesis name change) xs)) (hyp (change x) ∙ sym (hyp x)) ∙ ap (λ (l : List B). f (Hypothesis x) ++ l) k
       by false k = ap (λ (l : List B). f (Hypothesis x) ++ l) k
   hidden_change name change (Search s ∷ xs) = ap (λ (l : List B). f (Search s) ++ l) (hidden_change name change xs)
   hidden_change name change (Phase p ∷ xs) = ap (λ (l : List B). f (Phase p) ++ l) (hidden_change name change xs)
@@ -148,7 +148,7 @@ module _ {B : Type 0} (f : Item → List B) (hyp : (h : TheHypothesis) → f (Hy
       ∙ ap (λ (l : List B). l ++ flat_map f (filter (λ x. not (is_named name x)) xs)) (shows_none (is_named name) (λ x e. no_name name x (ap not e)) xs)
       ∙ hidden_filter (λ x. not (is_named name x)) (no_name name) xs
 
-  pub hidden_acted : (act : DirectiveAct) (xs : List Item) → flat_map f (acted act xs) ≡ flat_map f xs
+  pub hidden_acted : (act : DirectiveAct) (xs : List Item) → flat_map f (items_after_act act xs) ≡ flat_map f xs
   hidden_acted (Prune name) xs = hidden_pruned name xs
   hidden_acted (PruneAxis name axis) xs = hidden_change name (without_axis axis) xs
   hidden_acted (Threshold name threshold) xs = hidden_change name (with_threshold threshold) xs

@@ -5,14 +5,14 @@ use Rattle.pn_text.specs.Scans.{Ending, AtEnd, AtFault, tokens_of, fault_place}
 use Rattle.pn_text.specs.declared.token.Sign.TheVariants.{Semicolon}
 use Rattle.mdl_parse.specs.Readers.{keyword_at, sign_at, start_at, name_at, number_at}
 use Rattle.mdl_parse.specs.Shapes.{is_keyword}
-use Rattle.mdl_parse.specs.Steps.{Stop, Read, ◌>>=◌, is_first, first_word, leaf_at, option_at, taken}
+use Rattle.mdl_parse.specs.Steps.{Stop, Read, ◌>>=◌, is_first, first_word, leaf_at, option_at, some_read}
 use Rattle.mdl_parse.specs.WordsInText.{PlacedWord, placed_words}
 use Rattle.mdl_parse.proofs.Rules.{err_is}
 use Rattle.directives.specs.declared.directive.Directive.{Directive}
 use Rattle.directives.specs.declared.fault.DirectiveKind.{DirectiveKind}
 use Rattle.directives.specs.declared.fault.DirectiveKind.TheVariants.{Unexpected}
 use Rattle.directives.specs.Reading.{axis_at, prune_at, threshold_at, first_at, Form, Prunes, Thresholds, Firsts, form_at, form_read, directive_at, directives_at}
-use Rattle.directives.specs.Meaning.{AreOf, IsDirectives, IsFault, AtBytes, Faults, lex_kind, AlwaysMeans}
+use Rattle.directives.specs.Meaning.{AreOf, IsDirectives, IsFault, AtBytes, DirectiveFaults, lex_kind, AlwaysMeans}
 use Rattle.directives.specs.Ahead.{fault_in}
 use Rattle.directives.proofs.Rules.{directives_loop}
 use Rattle.directives.proofs.Exact.{all_read, whole_begins, stopped}
@@ -24,7 +24,7 @@ answered s = Err s
 
 -- as reading one word does
 abbrev IsPlain : Stop → Type 0
-IsPlain s = answered s ≡ taken None s.left
+IsPlain s = answered s ≡ some_read None s.left
 
 abbrev Plainly : {A : Type 0} → Read A → Type 0
 Plainly read = (s : Stop) → read ≡ Err s → IsPlain s
@@ -36,7 +36,7 @@ then_plainly : {A B : Type 0} (r : Read A) (f : A × List PlacedWord → Read B)
 then_plainly (Ok x) f p q s e = q x s e
 then_plainly {A} {B} (Err t) f p q s e = let same = err_is {A = B} t s e in p s (ap (λ (u : Stop). Err u) same)
 
-taken_plainly : {A : Type 0} (o : Option A) (words_ahead : List PlacedWord) → Plainly (taken o words_ahead)
+taken_plainly : {A : Type 0} (o : Option A) (words_ahead : List PlacedWord) → Plainly (some_read o words_ahead)
 taken_plainly {A} None words_ahead s e = subst IsPlain (err_is {A = A} _ s e) refl
 taken_plainly (Some a) words_ahead s e = absurd cc
 
@@ -91,7 +91,7 @@ all_plainly (suc k) (x ∷ words_ahead) h = go (directive_at (x ∷ words_ahead)
 abbrev Fault : List ℕ → Type 0
 Fault text = (line : ℕ) × (col : ℕ) × (kind : DirectiveKind) × IsFault text line col kind
 
-fault_of : (text : List ℕ) (left : List PlacedWord) (ending : Ending) → Faults text (fault_in left ending) → Fault text
+fault_of : (text : List ℕ) (left : List PlacedWord) (ending : Ending) → DirectiveFaults text (fault_in left ending) → Fault text
 fault_of text (x ∷ after) ending h = (x.line, x.col, Unexpected, h)
 fault_of text [] (AtEnd last) h = (last.line, last.col, Unexpected, h)
 fault_of text [] (AtFault fault) h = ((fault_place fault).line, (fault_place fault).col, lex_kind fault, h)

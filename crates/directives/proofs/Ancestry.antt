@@ -5,7 +5,7 @@ use Rattle.std.proofs.lemmas.Bool.{or_parts}
 use Rattle.std.proofs.lemmas.List.{append_assoc}
 use Rattle.mdl_ast.specs.declared.items.Item.{Item}
 use Rattle.mdl_ast.specs.declared.items.Item.TheVariants.{Include, Sync, Metric, Constraint, Hypothesis, Search, Phase, Wish}
-use Rattle.directives.specs.Hypotheses.{is_named, stands, lacks, is_orphan}
+use Rattle.directives.specs.Hypotheses.{is_named, has_hypothesis, lacks, is_orphan}
 use Rattle.directives.specs.Acts.{parent_in, parent_of, leads_up, is_under, pruned}
 use Rattle.directives.proofs.Stripped.{tally, none_counted, stripped, lift, named, count_stripped}
 use Rattle.directives.proofs.FineItems.{tally_append}
@@ -79,7 +79,7 @@ module _ (items : List Item) (k : ℕ) (name : List ℕ) where
         by : (parent : Option (List ℕ)) → bytes_eq name x.name ≡ false → lacks items parent ≡ false → lacks (free items k name items) parent ≡ (bytes_eq name x.name || leads_up items (suc k) name parent)
         by None b o = sym (ap (λ (c : Bool). c || false) b)
         by (Some p) b o =
-            ap not (stands_free p items agree ∙ ap (λ (c : Bool). not (leads_up items (suc k) name (Some p)) && c) (yes (stands p items) o)) ∙ twice (leads_up items (suc k) name (Some p))
+            ap not (stands_free p items agree ∙ ap (λ (c : Bool). not (leads_up items (suc k) name (Some p)) && c) (yes (has_hypothesis p items) o)) ∙ twice (leads_up items (suc k) name (Some p))
             ∙ sym (ap (λ (c : Bool). c || leads_up items (suc k) name (Some p)) b)
           where
             yes : (c : Bool) → not c ≡ false → c ≡ true

@@ -7,7 +7,7 @@ use Rattle.std.proofs.lemmas.List.{append_assoc, length-append}
 use Rattle.first_places.specs.Numbers.{with_number}
 use Rattle.mdl_ast.specs.declared.items.Item.{Item}
 use Rattle.directives.specs.Hypotheses.{is_named}
-use Rattle.directives.specs.Standing.{slot, without, taken, standing, is_child, is_place, ArePlaces, HaveOwnNames, places_where}
+use Rattle.directives.specs.Standing.{slot, without, items_in_slots, standing, is_child, is_place, ArePlaces, HaveOwnNames, places_where}
 use Rattle.directives.proofs.Slots.{Slots}
 
 pub where_more : (t : Item → Bool) (a : ℕ) (xs : List Item) (x : Item) → places_where t a (xs ++ x ∷ []) ≡ with_number (t x) (a + length xs) (places_where t a xs)
@@ -76,14 +76,14 @@ without_behind : (before slots : Slots) (s : Option Item) → without (before ++
 without_behind [] slots s = refl
 without_behind (b ∷ before) slots s = ap (λ (l : Slots). b ∷ l) (without_behind before slots s)
 
-taken_whole : (before : Slots) (xs : List Item) (a : ℕ) → a ≡ length before → taken (range_with_len a (length xs)) (before ++ map Some xs) ≡ xs
+taken_whole : (before : Slots) (xs : List Item) (a : ℕ) → a ≡ length before → items_in_slots (range_with_len a (length xs)) (before ++ map Some xs) ≡ xs
 taken_whole before [] a e = refl
 taken_whole before (x ∷ xs) a e =
     let here : slot (before ++ map Some (x ∷ xs)) a ≡ Some x = ap (slot (before ++ map Some (x ∷ xs))) e ∙ slot_behind before (map Some (x ∷ xs)) in
     let rest : without (before ++ map Some (x ∷ xs)) a ≡ (before ++ None ∷ []) ++ map Some xs =
     ap (without (before ++ map Some (x ∷ xs))) e ∙ without_behind before (map Some xs) (Some x) ∙ sym (append_assoc before (None ∷ []) (map Some xs)) in
-    ap (λ (o : Option Item). option_to_list o ++ taken (range_with_len (a + 1) (length xs)) (without (before ++ map Some (x ∷ xs)) a)) here
-    ∙ ap (λ (s : Slots). x ∷ taken (range_with_len (a + 1) (length xs)) s) rest
+    ap (λ (o : Option Item). option_to_list o ++ items_in_slots (range_with_len (a + 1) (length xs)) (without (before ++ map Some (x ∷ xs)) a)) here
+    ∙ ap (λ (s : Slots). x ∷ items_in_slots (range_with_len (a + 1) (length xs)) s) rest
     ∙ ap (λ (l : List Item). x ∷ l) (taken_whole (before ++ None ∷ []) xs (a + 1) (omega (arith, e, length-append before (None ∷ []))))
 
 pub length_some : (xs : List Item) → length (map Some xs) ≡ length xs
@@ -92,4 +92,4 @@ length_some (x ∷ xs) = ap suc (length_some xs)
 
 pub standing_at_first : (xs : List Item) → standing (map Some xs) [] ≡ xs
 unfolding standing
-standing_at_first xs = ap (λ (n : ℕ). taken (range_with_len 0 n) (map Some xs)) (length_some xs) ∙ taken_whole [] xs 0 refl
+standing_at_first xs = ap (λ (n : ℕ). items_in_slots (range_with_len 0 n) (map Some xs)) (length_some xs) ∙ taken_whole [] xs 0 refl

@@ -3,7 +3,7 @@ use Rattle.std.proofs.Common.{◌≡◌, ℕ, List, [], ◌∷◌, ◌++◌, fla
 use Rattle.std.proofs.lemmas.List.{append_assoc, append-nil}
 use Rattle.pn_text.specs.Scans.{Ending, AtEnd, AtFault, tokens_of}
 use Rattle.mdl_parse.specs.Picks.{is_any}
-use Rattle.mdl_parse.specs.Steps.{Read, taken}
+use Rattle.mdl_parse.specs.Steps.{Read, some_read}
 use Rattle.mdl_parse.specs.WordsInText.{PlacedWord, Spells, placed_words}
 use Rattle.mdl_parse.proofs.Rules.{Misses}
 use Rattle.mdl_parse.proofs.Readers.{Completed, any}
@@ -13,7 +13,7 @@ use Rattle.directives.specs.declared.directive.Directive.{Directive}
 use Rattle.directives.specs.declared.fault.DirectiveFault.{DirectiveFault}
 use Rattle.directives.specs.Spelling.{directive_words}
 use Rattle.directives.specs.Reading.{directives_at}
-use Rattle.directives.specs.Meaning.{AreOf, Begin, IsDirectives, AtWord, AtBytes, AtLast, Faults}
+use Rattle.directives.specs.Meaning.{AreOf, Begin, IsDirectives, AtWord, AtBytes, AtLast, DirectiveFaults}
 use Rattle.directives.specs.Ahead.{Ahead, ahead, StopsAt, fault_in, unread_in}
 use Rattle.directives.specs.declared.stop.Stop.TheVariants.{Unexpected}
 use Rattle.directives.proofs.Rules.{directives_reads}
@@ -45,7 +45,7 @@ whole_begins words_ahead ds a = record { whole = ds; tail = []; words = tt; spel
 
 -- reading stops before these words
 abbrev pub stops : List PlacedWord → Read (List Directive)
-stops left = taken None left
+stops left = some_read None left
 
 -- where nothing is read, nothing begins
 not_begun : (used : List PlacedWord) (x : PlacedWord) → ((other : List PlacedWord) → directives_at (used ++ (x ∷ other)) ≡ stops (x ∷ other)) → Begin (used ++ (x ∷ [])) → ⊥
@@ -55,7 +55,7 @@ not_begun used x bad b =
     absurd cc
 
 -- reading stops before these words, which end so
-pub stopped : (text : List ℕ) (left : List PlacedWord) (ending : Ending) → (tokens_of text).ending ≡ ending → directives_at (placed_words text) ≡ stops left → Faults text (fault_in left ending)
+pub stopped : (text : List ℕ) (left : List PlacedWord) (ending : Ending) → (tokens_of text).ending ≡ ending → directives_at (placed_words text) ≡ stops left → DirectiveFaults text (fault_in left ending)
 stopped text (x ∷ after) ending d e =
     let f = directives_reads.fails 0 (placed_words text) _ e in
     AtWord f.used x after f.split (begins f.used f.begun) (not_begun f.used x (f.bad x after refl 0 (omega arith)))
@@ -69,7 +69,7 @@ stopped text [] (AtEnd last) d e =
 -- all words are read, and this stands after them
 abbrev Ended : List ℕ → List Directive → Option DirectiveFault → Type 0
 Ended text ds None = IsDirectives text ds
-Ended text ds (Some fault) = Faults text fault
+Ended text ds (Some fault) = DirectiveFaults text fault
 
 ended : (text : List ℕ) (ds : List Directive) (ending : Ending) → (tokens_of text).ending ≡ ending → AreOf (placed_words text) ds → Ended text ds (unread_in [] ending)
 ended text ds (AtEnd last) d a = record { last = last; end = d; spelled = a }
@@ -85,8 +85,8 @@ module _ (text : List ℕ) (before after : Ahead) (is : before ≡ ahead text) (
   as_text : (r : Read (List Directive)) → directives_at before.words_ahead ≡ r → directives_at (placed_words text) ≡ r
   as_text r e = ap (λ (a : Ahead). directives_at a.words_ahead) (sym is) ∙ e
 
-  pub fault_stops : (fault : DirectiveFault) → StopsAt Unexpected after.words_ahead (directives_at before.words_ahead) → fault ≡ fault_in after.words_ahead after.ending → Faults text fault
-  fault_stops fault e f = subst (Faults text) (sym f) (stopped text after.words_ahead after.ending ending_is (as_text (stops after.words_ahead) e))
+  pub fault_stops : (fault : DirectiveFault) → StopsAt Unexpected after.words_ahead (directives_at before.words_ahead) → fault ≡ fault_in after.words_ahead after.ending → DirectiveFaults text fault
+  fault_stops fault e f = subst (DirectiveFaults text) (sym f) (stopped text after.words_ahead after.ending ending_is (as_text (stops after.words_ahead) e))
 
   all_ended : (ds : List Directive) (o : Option DirectiveFault) → directives_at before.words_ahead ≡ Ok (ds, after.words_ahead) → o ≡ unread_in after.words_ahead after.ending → Ended text ds o
   all_ended ds o e u =
@@ -96,5 +96,5 @@ module _ (text : List ℕ) (before after : Ahead) (is : before ≡ ahead text) (
   pub directives_end : (ds : List Directive) (o : Option DirectiveFault) → directives_at before.words_ahead ≡ Ok (ds, after.words_ahead) → o ≡ unread_in after.words_ahead after.ending → o ≡ None → IsDirectives text ds
   directives_end ds o e u n = subst (Ended text ds) n (all_ended ds o e u)
 
-  pub fault_ends : (ds : List Directive) (o : Option DirectiveFault) (fault : DirectiveFault) → directives_at before.words_ahead ≡ Ok (ds, after.words_ahead) → o ≡ unread_in after.words_ahead after.ending → o ≡ Some fault → Faults text fault
+  pub fault_ends : (ds : List Directive) (o : Option DirectiveFault) (fault : DirectiveFault) → directives_at before.words_ahead ≡ Ok (ds, after.words_ahead) → o ≡ unread_in after.words_ahead after.ending → o ≡ Some fault → DirectiveFaults text fault
   fault_ends ds o fault e u n = subst (Ended text ds) n (all_ended ds o e u)

@@ -6,8 +6,8 @@ use Rattle.mdl_ast.specs.declared.items.Item.{Item}
 use Rattle.mdl_ast.specs.declared.items.Item.TheVariants.{Include, Sync, Metric, Constraint, Hypothesis, Search, Phase, Wish}
 use Rattle.mdl_ast.specs.declared.items.Hypothesis.{Hypothesis as TheHypothesis}
 use Rattle.resource_tree.specs.Resources.{Resources}
-use Rattle.directives.specs.Hypotheses.{is_named, stands}
-use Rattle.directives.specs.Acts.{is_under, pruned, without_axis, with_threshold, acted, directed, expanded, applied}
+use Rattle.directives.specs.Hypotheses.{is_named, has_hypothesis}
+use Rattle.directives.specs.Acts.{is_under, pruned, without_axis, with_threshold, items_after_act, directed, expanded, applied}
 use Rattle.directives.specs.Applying.{IsAccepted}
 use Rattle.directives.specs.Laws.{is_prune, is_parent, is_child, IsAncestor, Parent, Higher, PrunedIsGone}
 use Rattle.directives.specs.declared.directive.Directive.{Directive}
@@ -39,7 +39,7 @@ prune_makes : (name : List ℕ) (items : List Item) → Nobody (named name) (pru
 unfolding pruned
 prune_makes name items = sym (stands_named name (filter (λ x. not (is_under items (length items) name x)) items)) ∙ none_named items (length items) name items
 
-makes : (name : List ℕ) (act : DirectiveAct) (items : List Item) → is_prune name act ≡ true → Nobody (named name) (acted act items)
+makes : (name : List ℕ) (act : DirectiveAct) (items : List Item) → is_prune name act ≡ true → Nobody (named name) (items_after_act act items)
 makes name (Prune other) items e = subst (λ (n : List ℕ). Nobody (named name) (pruned n items)) (same_name name other e) (prune_makes name items)
 makes name (PruneAxis other axis) items e = absurd cc
 makes name (Threshold other threshold) items e = absurd cc
@@ -49,13 +49,13 @@ makes name (First other) items e = absurd cc
 abbrev is_stray : List ℕ → List ℕ → TheHypothesis → Bool
 is_stray b p h = bytes_eq b h.name && not (has_parent p h.parent)
 
-keeps_named : (name : List ℕ) (act : DirectiveAct) (items : List Item) → Nobody (named name) items → Nobody (named name) (acted act items)
+keeps_named : (name : List ℕ) (act : DirectiveAct) (items : List Item) → Nobody (named name) items → Nobody (named name) (items_after_act act items)
 keeps_named name (Prune other) items h = none_pruned (named name) other items h
 keeps_named name (PruneAxis other axis) items h = change_none other (without_axis axis) (named name) (λ x t k. k) items h
 keeps_named name (Threshold other threshold) items h = change_none other (with_threshold threshold) (named name) (λ x t k. k) items h
 keeps_named name (First other) items h = none_first (named name) other items h
 
-keeps_stray : (b p : List ℕ) (act : DirectiveAct) (items : List Item) → Nobody (is_stray b p) items → Nobody (is_stray b p) (acted act items)
+keeps_stray : (b p : List ℕ) (act : DirectiveAct) (items : List Item) → Nobody (is_stray b p) items → Nobody (is_stray b p) (items_after_act act items)
 keeps_stray b p (Prune other) items h = none_pruned (is_stray b p) other items h
 keeps_stray b p (PruneAxis other axis) items h = change_none other (without_axis axis) (is_stray b p) (λ x t k. k) items h
 keeps_stray b p (Threshold other threshold) items h = change_none other (with_threshold threshold) (is_stray b p) (λ x t k. k) items h
@@ -121,21 +121,21 @@ module _ (t : Resources) (shipped items new : List Item) (ds : List Directive) (
   unfolding applied
   run = e
 
-  parent_stands : (b p : List ℕ) → list_any (is_child b p) (expanded shipped items) ≡ true → stands b new ≡ true → stands p new ≡ true
+  parent_stands : (b p : List ℕ) → list_any (is_child b p) (expanded shipped items) ≡ true → has_hypothesis b new ≡ true → has_hypothesis p new ≡ true
   parent_stands b p c s =
       let stray : Nobody (is_stray b p) new = stays (Nobody (is_stray b p)) (λ _. false) (λ act items x. absurd cc) (keeps_stray b p) ds (expanded shipped items) new (no_stray b p (expanded shipped items) (once_before t shipped items a b) c) run in
       stands_named p new ∙ home_of b p (stripped new) (stripped new) (sym (stands_named b new) ∙ s) stray (homes_after t shipped items ds new a e)
 
-  ancestor_stands : (ancestor b : List ℕ) → IsAncestor (expanded shipped items) ancestor b → stands b new ≡ true → stands ancestor new ≡ true
+  ancestor_stands : (ancestor b : List ℕ) → IsAncestor (expanded shipped items) ancestor b → has_hypothesis b new ≡ true → has_hypothesis ancestor new ≡ true
   ancestor_stands ancestor b (Parent name c) s = parent_stands b ancestor c s
   ancestor_stands ancestor b (Higher name parent c higher) s = ancestor_stands ancestor parent higher (parent_stands b parent c s)
 
 pub pruned_is_gone : PrunedIsGone
-pruned_is_gone t shipped items new ds name a e d = (gone, λ b up. by b up (stands b new) refl)
+pruned_is_gone t shipped items new ds name a e d = (gone, λ b up. by b up (has_hypothesis b new) refl)
   where
-    gone : stands name new ≡ false
+    gone : has_hypothesis name new ≡ false
     gone = stands_named name new ∙ in_the_end (Nobody (named name)) (is_prune name) (makes name) (keeps_named name) ds (expanded shipped items) new d (run t shipped items new ds a e)
 
-    by : (b : List ℕ) → IsAncestor (expanded shipped items) name b → (c : Bool) → stands b new ≡ c → stands b new ≡ false
+    by : (b : List ℕ) → IsAncestor (expanded shipped items) name b → (c : Bool) → has_hypothesis b new ≡ c → has_hypothesis b new ≡ false
     by b up false s = s
     by b up true s = let g = sym (ancestor_stands t shipped items new ds a e name b up s) ∙ gone in absurd cc

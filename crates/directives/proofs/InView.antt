@@ -3,9 +3,9 @@ use Rattle.std.proofs.Common.{◌≡◌, ℕ, ◌≤◌, Option, Some, None, Lis
 use Rattle.pn_text.specs.Scans.{Scan, Ending, AreSpans}
 use Rattle.pn_text.specs.declared.token.Token.{Token}
 use Rattle.mdl_parse.specs.Lexing.{tokens_ahead, HasEnded}
-use Rattle.mdl_parse.specs.Steps.{behind}
+use Rattle.mdl_parse.specs.Steps.{words_after}
 use Rattle.mdl_parse.specs.WordsInText.{PlacedWord, placed_word}
-use Rattle.directives.specs.Ahead.{Ahead, passed, in_view, StandIn}
+use Rattle.directives.specs.Ahead.{Ahead, ahead_after, in_view, StandIn}
 
 abbrev ahead_of : List PlacedWord → Ending → Ahead
 ahead_of words_ahead ending = record { words_ahead = words_ahead; ending = ending }
@@ -29,13 +29,13 @@ pub advanced_stands : (text : List ℕ) (token next : Option Token) (scan after 
 advanced_stands text None next scan after h e d = record { spans = subst (λ (t : List Token). AreSpans 0 t (length text)) (sym (e ∙ h.ended)) h.spans; ended = d }
 advanced_stands text (Some token) next scan after h e d = record { spans = subst (λ (t : List Token). AreSpans 0 t (length text)) (sym e) (spans_earlier token.to scan.tokens (length text) h.spans.2); ended = d }
 
-pub advanced_words : (text : List ℕ) (token next : Option Token) (scan after : Scan) → StandIn text token scan → tokens_ahead next after ≡ scan.tokens → (in_view text next after).words_ahead ≡ behind (in_view text token scan).words_ahead
+pub advanced_words : (text : List ℕ) (token next : Option Token) (scan after : Scan) → StandIn text token scan → tokens_ahead next after ≡ scan.tokens → (in_view text next after).words_ahead ≡ words_after (in_view text token scan).words_ahead
 advanced_words text None next scan after h e = ap (map (placed_word text)) (e ∙ h.ended)
 advanced_words text (Some token) next scan after h e = ap (map (placed_word text)) e
 
 pub new_stands : (text : List ℕ) (token : Option Token) (scan : Scan) (tokens : List Token) → tokens_ahead token scan ≡ tokens → AreSpans 0 tokens (length text) → HasEnded token scan → StandIn text token scan
 new_stands text token scan tokens e h d = record { spans = subst (λ (t : List Token). AreSpans 0 t (length text)) (sym e) h; ended = d }
 
-pub advanced_view : (text : List ℕ) (token next : Option Token) (scan after : Scan) → StandIn text token scan → tokens_ahead next after ≡ scan.tokens → after.ending ≡ scan.ending → in_view text next after ≡ passed (in_view text token scan)
+pub advanced_view : (text : List ℕ) (token next : Option Token) (scan after : Scan) → StandIn text token scan → tokens_ahead next after ≡ scan.tokens → after.ending ≡ scan.ending → in_view text next after ≡ ahead_after (in_view text token scan)
 advanced_view text token next scan after h e k =
-    ap (λ (s : List PlacedWord). ahead_of s after.ending) (advanced_words text token next scan after h e) ∙ ap (ahead_of (behind (in_view text token scan).words_ahead)) k
+    ap (λ (s : List PlacedWord). ahead_of s after.ending) (advanced_words text token next scan after h e) ∙ ap (ahead_of (words_after (in_view text token scan).words_ahead)) k

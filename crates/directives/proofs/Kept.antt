@@ -7,8 +7,8 @@ use Rattle.mdl_ast.specs.declared.items.Item.TheVariants.{Include, Sync, Metric,
 use Rattle.mdl_ast.specs.declared.items.Hypothesis.{Hypothesis as TheHypothesis}
 use Rattle.mdl_check.specs.Placed.{Entry}
 use Rattle.mdl_check.specs.Names.{metric_number}
-use Rattle.directives.specs.Hypotheses.{is_named, stands, lacks, is_orphan}
-use Rattle.directives.specs.Acts.{leads_up, is_under, pruned, changed}
+use Rattle.directives.specs.Hypotheses.{is_named, has_hypothesis, lacks, is_orphan}
+use Rattle.directives.specs.Acts.{leads_up, is_under, pruned, with_hypothesis}
 use Rattle.directives.proofs.Stripped.{or_none, count_filter, count_none, none_counted, tally, strip, stripped, lift, bare, named, misses, is_lost, has_parent, is_pair, Leads, is_unmeasured, is_strange, Fine, any_stripped}
 use Rattle.directives.proofs.Settling.{settled, pruned_in_rounds, filter_few, round, still}
 
@@ -89,7 +89,7 @@ named_lift name (Search s) = refl
 named_lift name (Phase p) = refl
 named_lift name (Wish w) = refl
 
-pub stands_named : (name : List ℕ) (items : List Item) → stands name items ≡ list_any (named name) (stripped items)
+pub stands_named : (name : List ℕ) (items : List Item) → has_hypothesis name items ≡ list_any (named name) (stripped items)
 stands_named name items = ap (λ (t : Item → Bool). list_any t items) (λ i item. named_lift name item i) ∙ sym (any_stripped (named name) items)
 
 lacks_misses : (items : List Item) (parent : Option (List ℕ)) → lacks items parent ≡ misses (stripped items) parent
@@ -156,7 +156,7 @@ same_any q new old e = by (list_any q new) (list_any q old) refl refl
 -- ---- a change
 
 module _ (name : List ℕ) (f : TheHypothesis → TheHypothesis) where
-  change_tally : (q : TheHypothesis → Bool) → ((h : TheHypothesis) → q (bare (f h)) ≡ q (bare h)) → (items : List Item) → tally q (stripped (map (changed name f) items)) ≡ tally q (stripped items)
+  change_tally : (q : TheHypothesis → Bool) → ((h : TheHypothesis) → q (bare (f h)) ≡ q (bare h)) → (items : List Item) → tally q (stripped (map (with_hypothesis name f) items)) ≡ tally q (stripped items)
   change_tally q e [] = refl
   change_tally q e (Include i ∷ xs) = change_tally q e xs
   change_tally q e (Sync s ∷ xs) = change_tally q e xs
@@ -164,15 +164,15 @@ module _ (name : List ℕ) (f : TheHypothesis → TheHypothesis) where
   change_tally q e (Constraint c ∷ xs) = change_tally q e xs
   change_tally q e (Hypothesis x ∷ xs) = by (bytes_eq name x.name) (change_tally q e xs)
     where
-      by : (b : Bool) → tally q (stripped (map (changed name f) xs)) ≡ tally q (stripped xs) →
-          tally q (strip (cond b (Hypothesis (f x)) (Hypothesis x)) ++ stripped (map (changed name f) xs)) ≡ cond (q (bare x)) 1 0 + tally q (stripped xs)
-      by true k = ap (λ (c : Bool). cond c 1 0 + tally q (stripped (map (changed name f) xs))) (e x) ∙ ap (λ (n : ℕ). cond (q (bare x)) 1 0 + n) k
+      by : (b : Bool) → tally q (stripped (map (with_hypothesis name f) xs)) ≡ tally q (stripped xs) →
+          tally q (strip (cond b (Hypothesis (f x)) (Hypothesis x)) ++ stripped (map (with_hypothesis name f) xs)) ≡ cond (q (bare x)) 1 0 + tally q (stripped xs)
+      by true k = ap (λ (c : Bool). cond c 1 0 + tally q (stripped (map (with_hypothesis name f) xs))) (e x) ∙ ap (λ (n : ℕ). cond (q (bare x)) 1 0 + n) k
       by false k = ap (λ (n : ℕ). cond (q (bare x)) 1 0 + n) k
   change_tally q e (Search s ∷ xs) = change_tally q e xs
   change_tally q e (Phase p ∷ xs) = change_tally q e xs
   change_tally q e (Wish w ∷ xs) = change_tally q e xs
 
-  pub change_none : (q : TheHypothesis → Bool) → ((h : TheHypothesis) → bytes_eq name h.name ≡ true → q (bare h) ≡ false → q (bare (f h)) ≡ false) → (items : List Item) → list_any q (stripped items) ≡ false → list_any q (stripped (map (changed name f) items)) ≡ false
+  pub change_none : (q : TheHypothesis → Bool) → ((h : TheHypothesis) → bytes_eq name h.name ≡ true → q (bare h) ≡ false → q (bare (f h)) ≡ false) → (items : List Item) → list_any q (stripped items) ≡ false → list_any q (stripped (map (with_hypothesis name f) items)) ≡ false
   change_none q e [] h = refl
   change_none q e (Include i ∷ xs) h = change_none q e xs h
   change_none q e (Sync s ∷ xs) h = change_none q e xs h
@@ -180,16 +180,16 @@ module _ (name : List ℕ) (f : TheHypothesis → TheHypothesis) where
   change_none q e (Constraint c ∷ xs) h = change_none q e xs h
   change_none q e (Hypothesis x ∷ xs) h = let k = or_parts (q (bare x)) (list_any q (stripped xs)) h in by (bytes_eq name x.name) refl k.0 (change_none q e xs k.1)
     where
-      by : (b : Bool) → bytes_eq name x.name ≡ b → q (bare x) ≡ false → list_any q (stripped (map (changed name f) xs)) ≡ false → list_any q (strip (cond b (Hypothesis (f x)) (Hypothesis x)) ++ stripped (map (changed name f) xs)) ≡ false
-      by true t k l = or_none (q (bare (f x))) (list_any q (stripped (map (changed name f) xs))) (e x t k) l
-      by false t k l = or_none (q (bare x)) (list_any q (stripped (map (changed name f) xs))) k l
+      by : (b : Bool) → bytes_eq name x.name ≡ b → q (bare x) ≡ false → list_any q (stripped (map (with_hypothesis name f) xs)) ≡ false → list_any q (strip (cond b (Hypothesis (f x)) (Hypothesis x)) ++ stripped (map (with_hypothesis name f) xs)) ≡ false
+      by true t k l = or_none (q (bare (f x))) (list_any q (stripped (map (with_hypothesis name f) xs))) (e x t k) l
+      by false t k l = or_none (q (bare x)) (list_any q (stripped (map (with_hypothesis name f) xs))) k l
   change_none q e (Search s ∷ xs) h = change_none q e xs h
   change_none q e (Phase p ∷ xs) h = change_none q e xs h
   change_none q e (Wish w ∷ xs) h = change_none q e xs h
 
   -- what the change gives, and what no other hypothesis has
   pub change_sets : (q : TheHypothesis → Bool) → ((h : TheHypothesis) → bytes_eq name h.name ≡ true → q (bare (f h)) ≡ false) → ((h : TheHypothesis) → bytes_eq name h.name ≡ false → q (bare h) ≡ false) → (items : List Item) →
-      list_any q (stripped (map (changed name f) items)) ≡ false
+      list_any q (stripped (map (with_hypothesis name f) items)) ≡ false
   change_sets q e g [] = refl
   change_sets q e g (Include i ∷ xs) = change_sets q e g xs
   change_sets q e g (Sync s ∷ xs) = change_sets q e g xs
@@ -197,20 +197,20 @@ module _ (name : List ℕ) (f : TheHypothesis → TheHypothesis) where
   change_sets q e g (Constraint c ∷ xs) = change_sets q e g xs
   change_sets q e g (Hypothesis x ∷ xs) = by (bytes_eq name x.name) refl (change_sets q e g xs)
     where
-      by : (b : Bool) → bytes_eq name x.name ≡ b → list_any q (stripped (map (changed name f) xs)) ≡ false → list_any q (strip (cond b (Hypothesis (f x)) (Hypothesis x)) ++ stripped (map (changed name f) xs)) ≡ false
-      by true t l = or_none (q (bare (f x))) (list_any q (stripped (map (changed name f) xs))) (e x t) l
-      by false t l = or_none (q (bare x)) (list_any q (stripped (map (changed name f) xs))) (g x t) l
+      by : (b : Bool) → bytes_eq name x.name ≡ b → list_any q (stripped (map (with_hypothesis name f) xs)) ≡ false → list_any q (strip (cond b (Hypothesis (f x)) (Hypothesis x)) ++ stripped (map (with_hypothesis name f) xs)) ≡ false
+      by true t l = or_none (q (bare (f x))) (list_any q (stripped (map (with_hypothesis name f) xs))) (e x t) l
+      by false t l = or_none (q (bare x)) (list_any q (stripped (map (with_hypothesis name f) xs))) (g x t) l
   change_sets q e g (Search s ∷ xs) = change_sets q e g xs
   change_sets q e g (Phase p ∷ xs) = change_sets q e g xs
   change_sets q e g (Wish w ∷ xs) = change_sets q e g xs
 
-  pub change_any : (q : TheHypothesis → Bool) → ((h : TheHypothesis) → q (bare (f h)) ≡ q (bare h)) → (items : List Item) → list_any q (stripped (map (changed name f) items)) ≡ list_any q (stripped items)
-  change_any q e items = same_any q (stripped (map (changed name f) items)) (stripped items) (change_tally q e items)
+  pub change_any : (q : TheHypothesis → Bool) → ((h : TheHypothesis) → q (bare (f h)) ≡ q (bare h)) → (items : List Item) → list_any q (stripped (map (with_hypothesis name f) items)) ≡ list_any q (stripped items)
+  change_any q e items = same_any q (stripped (map (with_hypothesis name f) items)) (stripped items) (change_tally q e items)
 
   pub fine_changed : (o : List Entry) (n : ℕ) (items : List Item) → ((h : TheHypothesis) → (bare (f h)).name ≡ h.name) → ((h : TheHypothesis) → (bare (f h)).parent ≡ h.parent) → ((h : TheHypothesis) → (bare (f h)).metric ≡ h.metric) →
-      ((h : TheHypothesis) → is_strange (bare h) ≡ false → is_strange (bare (f h)) ≡ false) → Fine o n (stripped items) → Fine o n (stripped (map (changed name f) items))
+      ((h : TheHypothesis) → is_strange (bare h) ≡ false → is_strange (bare (f h)) ≡ false) → Fine o n (stripped items) → Fine o n (stripped (map (with_hypothesis name f) items))
   fine_changed o n items en ep em ea fine =
-      let new = map (changed name f) items in
+      let new = map (with_hypothesis name f) items in
       let missing : misses (stripped new) ≡ misses (stripped items) = λ i parent. missed parent i in
       record {
         once = λ name. omega (arith, fine.once name, change_tally (named name) (λ h. ap (bytes_eq name) (en h)) items);
@@ -221,9 +221,9 @@ module _ (name : List ℕ) (f : TheHypothesis → TheHypothesis) where
             (λ b p h. sym (change_any (is_pair b p) (λ x. ap (λ (m : List ℕ). bytes_eq b m && has_parent p (bare (f x)).parent) (en x) ∙ ap (λ (m : Option (List ℕ)). bytes_eq b x.name && has_parent p m) (ep x)) items) ∙ h) n a a l);
       }
     where
-      missed : (parent : Option (List ℕ)) → misses (stripped (map (changed name f) items)) parent ≡ misses (stripped items) parent
+      missed : (parent : Option (List ℕ)) → misses (stripped (map (with_hypothesis name f) items)) parent ≡ misses (stripped items) parent
       missed None = refl
       missed (Some p) = ap not (change_any (named p) (λ h. ap (bytes_eq p) (en h)) items)
 
-  pub changed_few : (items : List Item) → length (stripped (map (changed name f) items)) ≤ length (stripped items)
-  changed_few items = omega (arith, change_tally (λ _. true) (λ h. refl) items, tally_all (stripped (map (changed name f) items)), tally_all (stripped items))
+  pub changed_few : (items : List Item) → length (stripped (map (with_hypothesis name f) items)) ≤ length (stripped items)
+  changed_few items = omega (arith, change_tally (λ _. true) (λ h. refl) items, tally_all (stripped (map (with_hypothesis name f) items)), tally_all (stripped items))

@@ -5,7 +5,7 @@ use Rattle.mdl_ast.specs.declared.items.Item.{Item}
 use Rattle.directives.specs.declared.directive.Directive.{Directive}
 use Rattle.directives.specs.declared.fault.DirectiveKind.{DirectiveKind}
 use Rattle.directives.specs.declared.fault.DirectiveFault.{DirectiveFault}
-use Rattle.directives.specs.Acts.{kind_of, acted, go_on, directed}
+use Rattle.directives.specs.Acts.{kind_of, items_after_act, go_on, directed}
 
 abbrev Answer : Type 0
 Answer = Result (List Item) DirectiveFault
@@ -23,7 +23,7 @@ pub directed_faulty : (whole : Answer) (ds : List Directive) (i : ℕ) (d : Dire
 directed_faulty whole ds i d items kind e h k n = directed_step whole ds i d items e h k ∙ ap (go_on (directed (drop (i + 1) ds)) d items) n
 
 pub directed_more : (whole : Answer) (ds : List Directive) (i : ℕ) (d : Directive) (items next : List Item) → whole ≡ directed (drop i ds) items → i < length ds → d ≡ get_or ds i d →
-    kind_of d.act items ≡ None → next ≡ acted d.act items → whole ≡ directed (drop (i + 1) ds) next
+    kind_of d.act items ≡ None → next ≡ items_after_act d.act items → whole ≡ directed (drop (i + 1) ds) next
 directed_more whole ds i d items next e h k n m =
     directed_step whole ds i d items e h k ∙ ap (go_on (directed (drop (i + 1) ds)) d items) n ∙ ap (directed (drop (i + 1) ds)) (sym m)
 

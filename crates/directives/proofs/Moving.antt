@@ -8,9 +8,9 @@ use Rattle.std.proofs.lemmas.List.Elements.{filter-append}
 use Rattle.mdl_ast.specs.declared.items.Item.{Item}
 use Rattle.mdl_ast.specs.declared.items.Item.TheVariants.{Include, Sync, Metric, Constraint, Hypothesis, Search, Phase, Wish}
 use Rattle.mdl_ast.specs.declared.items.Hypothesis.{Hypothesis as TheHypothesis}
-use Rattle.directives.specs.Hypotheses.{is_named, is_along, stands}
-use Rattle.directives.specs.Acts.{changed, with_first}
-use Rattle.directives.specs.Standing.{slot, without, with_change, taken, IsLeftOf, order, standing, is_child, is_place, AreUnder, ArePlaces, first_at}
+use Rattle.directives.specs.Hypotheses.{is_named, is_along, has_hypothesis}
+use Rattle.directives.specs.Acts.{with_hypothesis, with_first}
+use Rattle.directives.specs.Standing.{slot, without, with_change, items_in_slots, IsLeftOf, order, standing, is_child, is_place, AreUnder, ArePlaces, first_at}
 use Rattle.directives.proofs.Slots.{Slots, at, slot_without, slot_change, stood_there, left_of, left_again, in_order, taken_alike}
 use Rattle.directives.proofs.AllStanding.{any_standing, some_standing, standing_alike}
 use Rattle.directives.proofs.Pruning.{one_place}
@@ -116,7 +116,7 @@ module _ (slots : Slots) (named children : List ℕ → List ℕ) (are : ArePlac
 
   -- ---- first
 
-  module _ (there : stands name (standing slots moved) ≡ true) where
+  module _ (there : has_hypothesis name (standing slots moved) ≡ true) where
     pub somewhere : slice_get (named name) 0 ≡ None → ⊥
     somewhere e = let p = some_standing (is_named name) slots moved there in let g = sym p.passes ∙ named_at None e p.place p.item p.there in absurd cc
 
@@ -148,10 +148,10 @@ module _ (slots : Slots) (named children : List ℕ → List ℕ) (are : ArePlac
               one true p = sym (ap (λ (b : Bool). cond (not b) (x ∷ []) []) (named_at (Some place) e k x s ∙ p))
               one false p = sym (ap (λ (b : Bool). cond (not b) (x ∷ []) []) (named_at (Some place) e k x s ∙ p))
 
-      named_taken : (ks : List ℕ) (some : Slots) → IsLeftOf slots some → filter (is_named name) (taken ks some) ≡ cond (is_place ks place) (at some place) []
+      named_taken : (ks : List ℕ) (some : Slots) → IsLeftOf slots some → filter (is_named name) (items_in_slots ks some) ≡ cond (is_place ks place) (at some place) []
       named_taken [] some l = refl
       named_taken (k ∷ ks) some l =
-          filter-append (is_named name) (at some k) (taken ks (without some k)) ∙ ap (λ (xs : List Item). filter (is_named name) (at some k) ++ xs) (named_taken ks (without some k) behind) ∙ by (k == place) refl
+          filter-append (is_named name) (at some k) (items_in_slots ks (without some k)) ∙ ap (λ (xs : List Item). filter (is_named name) (at some k) ++ xs) (named_taken ks (without some k) behind) ∙ by (k == place) refl
         where
           behind : IsLeftOf slots (without some k)
           behind = left_again slots some (without some k) l (left_of (k ∷ []) some)
@@ -184,14 +184,14 @@ module _ (slots : Slots) (named children : List ℕ → List ℕ) (are : ArePlac
       pub moved_first : standing slots (moved ++ place ∷ []) ≡ with_first name (standing slots moved)
       unfolding standing with_first
       moved_first =
-          ap (λ (l : List ℕ). taken (l ++ range_with_len 0 (length slots)) slots) (reverse-append moved (place ∷ []))
+          ap (λ (l : List ℕ). items_in_slots (l ++ range_with_len 0 (length slots)) slots) (reverse-append moved (place ∷ []))
           ∙ ap₂ (λ (xs ys : List Item). xs ++ ys) (sym (named_taken (order slots moved) slots (λ k. inl refl) ∙ ap (λ (b : Bool). cond b (at slots place) []) standing_there))
           (taken_alike (filter is_other) refl (λ xs ys. filter-append is_other xs ys) (order slots moved) slots (without slots place) others_left)
 
 -- ---- a change keeps names and parents
 
 module _ (name : List ℕ) (g : TheHypothesis → TheHypothesis) where
-  pub not_named : (x : Item) → is_named name x ≡ false → changed name g x ≡ x
+  pub not_named : (x : Item) → is_named name x ≡ false → with_hypothesis name g x ≡ x
   not_named (Include i) e = refl
   not_named (Sync s) e = refl
   not_named (Metric m) e = refl
@@ -202,7 +202,7 @@ module _ (name : List ℕ) (g : TheHypothesis → TheHypothesis) where
   not_named (Wish w) e = refl
 
   -- a test that only a hypothesis passes, and as before
-  same_test : (t : Item → Bool) → ((h : TheHypothesis) → t (Hypothesis (g h)) ≡ t (Hypothesis h)) → (x : Item) → t (changed name g x) ≡ t x
+  same_test : (t : Item → Bool) → ((h : TheHypothesis) → t (Hypothesis (g h)) ≡ t (Hypothesis h)) → (x : Item) → t (with_hypothesis name g x) ≡ t x
   same_test t f (Include i) = refl
   same_test t f (Sync s) = refl
   same_test t f (Metric m) = refl
@@ -217,23 +217,23 @@ module _ (name : List ℕ) (g : TheHypothesis → TheHypothesis) where
   same_test t f (Wish w) = refl
 
   under_changed : (test : List ℕ → Item → Bool) → ((own : List ℕ) (h : TheHypothesis) → test own (Hypothesis (g h)) ≡ test own (Hypothesis h)) → (slots : Slots) (place : ℕ) (places : List ℕ → List ℕ) →
-      AreUnder test slots places → AreUnder test (with_change slots place (changed name g)) places
-  under_changed test f slots place places are own k y e = by (place == k) (slot slots k) refl (sym (slot_change slots place (changed name g) k) ∙ e)
+      AreUnder test slots places → AreUnder test (with_change slots place (with_hypothesis name g)) places
+  under_changed test f slots place places are own k y e = by (place == k) (slot slots k) refl (sym (slot_change slots place (with_hypothesis name g) k) ∙ e)
     where
-      by : (b : Bool) (o : Option Item) → slot slots k ≡ o → cond b (option_map (changed name g) (slot slots k)) (slot slots k) ≡ Some y → test own y ≡ is_place (places own) k
-      by b None s h = let n = sym (ap (λ (o : Option Item). cond b (option_map (changed name g) o) o) s) ∙ h in nothing b n
+      by : (b : Bool) (o : Option Item) → slot slots k ≡ o → cond b (option_map (with_hypothesis name g) (slot slots k)) (slot slots k) ≡ Some y → test own y ≡ is_place (places own) k
+      by b None s h = let n = sym (ap (λ (o : Option Item). cond b (option_map (with_hypothesis name g) o) o) s) ∙ h in nothing b n
         where
-          nothing : (b : Bool) → cond b (option_map (changed name g) None) None ≡ Some y → test own y ≡ is_place (places own) k
+          nothing : (b : Bool) → cond b (option_map (with_hypothesis name g) None) None ≡ Some y → test own y ≡ is_place (places own) k
           nothing true n = absurd cc
           nothing false n = absurd cc
-      by b (Some x) s h = some b (sym (ap (λ (o : Option Item). cond b (option_map (changed name g) o) o) s) ∙ h)
+      by b (Some x) s h = some b (sym (ap (λ (o : Option Item). cond b (option_map (with_hypothesis name g) o) o) s) ∙ h)
         where
-          some : (b : Bool) → cond b (option_map (changed name g) (Some x)) (Some x) ≡ Some y → test own y ≡ is_place (places own) k
-          some true n = let one : changed name g x ≡ y = cc in ap (test own) (sym one) ∙ same_test (test own) (f own) x ∙ are own k x s
+          some : (b : Bool) → cond b (option_map (with_hypothesis name g) (Some x)) (Some x) ≡ Some y → test own y ≡ is_place (places own) k
+          some true n = let one : with_hypothesis name g x ≡ y = cc in ap (test own) (sym one) ∙ same_test (test own) (f own) x ∙ are own k x s
           some false n = let one : x ≡ y = cc in ap (test own) (sym one) ∙ are own k x s
 
   pub places_changed : ((own : List ℕ) (h : TheHypothesis) → is_named own (Hypothesis (g h)) ≡ is_named own (Hypothesis h)) → ((own : List ℕ) (h : TheHypothesis) → is_child own (Hypothesis (g h)) ≡ is_child own (Hypothesis h)) →
-      (slots : Slots) (place : ℕ) (named children : List ℕ → List ℕ) → ArePlaces slots named children → ArePlaces (with_change slots place (changed name g)) named children
+      (slots : Slots) (place : ℕ) (named children : List ℕ → List ℕ) → ArePlaces slots named children → ArePlaces (with_change slots place (with_hypothesis name g)) named children
   places_changed f h slots place named children are = record {
     by_name = under_changed is_named f slots place named are.by_name;
     once = are.once;

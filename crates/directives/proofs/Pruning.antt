@@ -8,9 +8,9 @@ use Rattle.std.proofs.lemmas.List.Elements.{filter-append}
 use Rattle.mdl_ast.specs.declared.items.Item.{Item}
 use Rattle.mdl_ast.specs.declared.items.Item.TheVariants.{Include, Sync, Metric, Constraint, Hypothesis, Search, Phase, Wish}
 use Rattle.mdl_ast.specs.declared.items.Hypothesis.{Hypothesis as TheHypothesis}
-use Rattle.directives.specs.Hypotheses.{is_named, stands}
+use Rattle.directives.specs.Hypotheses.{is_named, has_hypothesis}
 use Rattle.directives.specs.Acts.{parent_in, parent_of, leads_up, is_under, pruned}
-use Rattle.directives.specs.Standing.{slot, taken, left, IsLeftOf, count, standing, is_child, is_place, ArePlaces, children_of}
+use Rattle.directives.specs.Standing.{slot, items_in_slots, items_left, IsLeftOf, count, standing, is_child, is_place, ArePlaces, children_of}
 use Rattle.directives.proofs.Slots.{Slots, at, left_at, left_of, nothing_there, stood_there, left_again, emptied_at, any_taken, all_taken, count_left}
 use Rattle.directives.proofs.AllStanding.{standing_count, any_standing, some_standing, all_standing, standing_alike}
 use Rattle.directives.proofs.Ancestors.{under_is, Agrees, parent_found, no_parent, under_more, under_named, under_itself, under_child}
@@ -133,14 +133,14 @@ module _ (start : Slots) (named children : List ℕ → List ℕ) (are : ArePlac
           let one : y ≡ x = cc in
           ap parent_in one
 
-  pub at_first : Taking (left (named name) start) (taken (named name) start)
+  pub at_first : Taking (items_left (named name) start) (items_in_slots (named name) start)
   at_first = record {
     rest = left_of (named name) start;
-    steps = length (taken (named name) start);
+    steps = length (items_in_slots (named name) start);
     spent = count_left (named name) start;
-    gone = λ k x s n. under_itself all (length (taken (named name) start)) name x (are.by_name name k x s ∙ emptied_at (named name) start k x s n);
-    known = all_taken (λ x. (is_under all (length (taken (named name) start)) name x ≡ true) × Agrees all x) (named name) start
-        (λ k x p s. (under_itself all (length (taken (named name) start)) name x (are.by_name name k x s ∙ p), agrees k x s));
+    gone = λ k x s n. under_itself all (length (items_in_slots (named name) start)) name x (are.by_name name k x s ∙ emptied_at (named name) start k x s n);
+    known = all_taken (λ x. (is_under all (length (items_in_slots (named name) start)) name x ≡ true) × Agrees all x) (named name) start
+        (λ k x p s. (under_itself all (length (items_in_slots (named name) start)) name x (are.by_name name k x s ∙ p), agrees k x s));
     closed = λ j k y x p s n m t c. any_taken (is_named p) (named name) start j y (emptied_at (named name) start j y s n) s m;
     itself = λ k x s m. left_at (named name) start k ∙ ap (λ (b : Bool). cond b None (slot start k)) (sym (are.by_name name k x s) ∙ m);
   }
@@ -150,7 +150,7 @@ module _ (start : Slots) (named children : List ℕ → List ℕ) (are : ArePlac
     ks = children_of children z
 
     abbrev steps_then : ℕ
-    steps_then = was.steps + length (taken ks slots)
+    steps_then = was.steps + length (items_in_slots ks slots)
 
     last : AllByRecursion (λ x. (is_under all was.steps name x ≡ true) × Agrees all x) behind × ((is_under all was.steps name z ≡ true) × Agrees all z)
     last = all_but_last (λ x. (is_under all was.steps name x ≡ true) × Agrees all x) behind z was.known
@@ -160,53 +160,53 @@ module _ (start : Slots) (named children : List ℕ → List ℕ) (are : ArePlac
         let there : slot start k ≡ Some x = stood_there start slots was.rest k x s in
         let parent = of_parent children z k p in
         let below = under_child all was.steps name parent.name x z last.1.1 parent.named (are.by_parent parent.name k x there ∙ parent.below) last.1.0 in
-        let some = some_there (λ y. true) (taken ks slots) (any_taken (λ y. true) ks slots k x p s refl) in
+        let some = some_there (λ y. true) (items_in_slots ks slots) (any_taken (λ y. true) ks slots k x p s refl) in
         under_more all (suc was.steps) steps_then name x (omega arith) below
 
-    pub then_children : Taking (left ks slots) (behind ++ taken ks slots)
+    pub then_children : Taking (items_left ks slots) (behind ++ items_in_slots ks slots)
     then_children = record {
-      rest = left_again start slots (left ks slots) was.rest (left_of ks slots);
+      rest = left_again start slots (items_left ks slots) was.rest (left_of ks slots);
       steps = steps_then;
       spent = omega (arith, count_left ks slots, was.spent);
       gone = gone_then;
-      known = all_both (λ x. (is_under all steps_then name x ≡ true) × Agrees all x) behind (taken ks slots)
+      known = all_both (λ x. (is_under all steps_then name x ≡ true) × Agrees all x) behind (items_in_slots ks slots)
           (all_more (λ x. (is_under all was.steps name x ≡ true) × Agrees all x) (λ x. (is_under all steps_then name x ≡ true) × Agrees all x) (λ x h. (under_more all was.steps steps_then name x (omega arith) h.0, h.1)) behind last.0)
           (all_taken (λ x. (is_under all steps_then name x ≡ true) × Agrees all x) ks slots (λ k x p s. (taken_under k x p s, agrees k x (stood_there start slots was.rest k x s))));
       closed = closed_then;
-      itself = λ k x s m. nothing_there slots (left ks slots) (left_of ks slots) k (was.itself k x s m);
+      itself = λ k x s m. nothing_there slots (items_left ks slots) (left_of ks slots) k (was.itself k x s m);
     }
       where
-        gone_then : (k : ℕ) (x : Item) → slot start k ≡ Some x → slot (left ks slots) k ≡ None → is_under all steps_then name x ≡ true
+        gone_then : (k : ℕ) (x : Item) → slot start k ≡ Some x → slot (items_left ks slots) k ≡ None → is_under all steps_then name x ≡ true
         gone_then k x s n = by (was.rest k)
           where
             by : (slot slots k ≡ slot start k) ⊎ (slot slots k ≡ None) → is_under all steps_then name x ≡ true
             by (inl e) = taken_under k x (emptied_at ks slots k x (e ∙ s) n) (e ∙ s)
             by (inr e) = under_more all was.steps steps_then name x (omega arith) (was.gone k x s e)
 
-        closed_then : (j k : ℕ) (y x : Item) (p : List ℕ) → slot start j ≡ Some y → slot (left ks slots) j ≡ None → is_named p y ≡ true → slot (left ks slots) k ≡ Some x → is_child p x ≡ true → list_any (is_named p) (behind ++ taken ks slots) ≡ true
+        closed_then : (j k : ℕ) (y x : Item) (p : List ℕ) → slot start j ≡ Some y → slot (items_left ks slots) j ≡ None → is_named p y ≡ true → slot (items_left ks slots) k ≡ Some x → is_child p x ≡ true → list_any (is_named p) (behind ++ items_in_slots ks slots) ≡ true
         closed_then j k y x p s n m t c = by (was.rest j)
           where
             there : slot slots k ≡ Some x
-            there = stood_there slots (left ks slots) (left_of ks slots) k x t
+            there = stood_there slots (items_left ks slots) (left_of ks slots) k x t
 
             -- what is a child of the last one was taken
-            not_here : is_named p z ≡ true → list_any (is_named p) (behind ++ taken ks slots) ≡ true
+            not_here : is_named p z ≡ true → list_any (is_named p) (behind ++ items_in_slots ks slots) ≡ true
             not_here e =
                 let place : is_place ks k ≡ true = ap (λ (l : List ℕ). is_place l k) (children_named children z p e) ∙ sym (are.by_parent p k x (stood_there start slots was.rest k x there)) ∙ c in
-                let none : slot (left ks slots) k ≡ None = left_at ks slots k ∙ ap (λ (b : Bool). cond b None (slot slots k)) place in
+                let none : slot (items_left ks slots) k ≡ None = left_at ks slots k ∙ ap (λ (b : Bool). cond b None (slot slots k)) place in
                 absurd cc
 
-            by : (slot slots j ≡ slot start j) ⊎ (slot slots j ≡ None) → list_any (is_named p) (behind ++ taken ks slots) ≡ true
-            by (inl e) = any_right (is_named p) behind (taken ks slots) (any_taken (is_named p) ks slots j y (emptied_at ks slots j y (e ∙ s) n) (e ∙ s) m)
+            by : (slot slots j ≡ slot start j) ⊎ (slot slots j ≡ None) → list_any (is_named p) (behind ++ items_in_slots ks slots) ≡ true
+            by (inl e) = any_right (is_named p) behind (items_in_slots ks slots) (any_taken (is_named p) ks slots j y (emptied_at ks slots j y (e ∙ s) n) (e ∙ s) m)
             by (inr e) = who (any_last (is_named p) behind z (was.closed j k y x p s e m there c))
               where
-                who : (list_any (is_named p) behind ≡ true) ⊎ (is_named p z ≡ true) → list_any (is_named p) (behind ++ taken ks slots) ≡ true
-                who (inl h) = any_left (is_named p) behind (taken ks slots) h
+                who : (list_any (is_named p) behind ≡ true) ⊎ (is_named p z ≡ true) → list_any (is_named p) (behind ++ items_in_slots ks slots) ≡ true
+                who (inl h) = any_left (is_named p) behind (items_in_slots ks slots) h
                 who (inr h) = not_here h
 
   -- ---- at the end
 
-  module _ (slots : Slots) (done : Taking slots []) (there : stands name all ≡ true) where
+  module _ (slots : Slots) (done : Taking slots []) (there : has_hypothesis name all ≡ true) where
     abbrev Gone : ℕ → Type 0
     Gone n = (k : ℕ) (x : Item) → slot start k ≡ Some x → is_under all n name x ≡ true → slot slots k ≡ None
 

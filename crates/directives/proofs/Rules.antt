@@ -7,7 +7,7 @@ use Rattle.mdl_parse.specs.Grammar.{keyword}
 use Rattle.mdl_parse.specs.Picks.{is_any}
 use Rattle.mdl_parse.specs.Shapes.{is_keyword}
 use Rattle.mdl_parse.specs.Steps.{Read, is_first, option_at, many_at}
-use Rattle.mdl_parse.specs.WordsInText.{PlacedWord, TreeWord, Starts, Goes, goes}
+use Rattle.mdl_parse.specs.WordsInText.{PlacedWord, TreeWord, Starts, Goes, other_words}
 use Rattle.mdl_parse.proofs.Rules.{StartsAs}
 use Rattle.mdl_parse.proofs.Readers.{Reads, closed, any}
 use Rattle.mdl_parse.proofs.Options.{option_reads, option_on, option_ok, option_tree_words, BeginsAs, of_kind, chosen_reads}
@@ -27,7 +27,7 @@ use Rattle.directives.specs.Ahead.{StopsAt}
 -- ---- the axis of a prune
 
 abbrev axis_words : List ℕ → List TreeWord
-axis_words axis = goes (keyword (codes "axis") ∷ NameWord axis ∷ [])
+axis_words axis = other_words (keyword (codes "axis") ∷ NameWord axis ∷ [])
 
 abbrev is_axis : Word → Bool
 is_axis = is_keyword (codes "axis")

@@ -8,7 +8,7 @@ use Rattle.std.proofs.Math.Seq.{take-suc}
 use Rattle.std.proofs.Math.Dec.{eqb-zero-suc, eqb-suc-zero, eqb-suc-suc}
 use Rattle.std.proofs.lemmas.List.{append_assoc, append-nil, length-set}
 use Rattle.mdl_ast.specs.declared.items.Item.{Item}
-use Rattle.directives.specs.Standing.{slot, without, with_change, taken, left, IsLeftOf, count, order, is_place}
+use Rattle.directives.specs.Standing.{slot, without, with_change, items_in_slots, items_left, IsLeftOf, count, order, is_place}
 
 abbrev pub Slots : Type 0
 Slots = List (Option Item)
@@ -38,7 +38,7 @@ slot_change slots k f j = slot_set slots k (option_map f) refl j
 
 -- ---- what is left
 
-pub left_at : (ks : List ℕ) (slots : Slots) (k : ℕ) → slot (left ks slots) k ≡ cond (is_place ks k) None (slot slots k)
+pub left_at : (ks : List ℕ) (slots : Slots) (k : ℕ) → slot (items_left ks slots) k ≡ cond (is_place ks k) None (slot slots k)
 left_at [] slots k = refl
 left_at (j ∷ ks) slots k = left_at ks (without slots j) k ∙ ap (cond (is_place ks k) None) (slot_without slots j k) ∙ by (j == k) (is_place ks k)
   where
@@ -47,10 +47,10 @@ left_at (j ∷ ks) slots k = left_at ks (without slots j) k ∙ ap (cond (is_pla
     by true false = refl
     by false c = refl
 
-pub left_of : (ks : List ℕ) (slots : Slots) → IsLeftOf slots (left ks slots)
+pub left_of : (ks : List ℕ) (slots : Slots) → IsLeftOf slots (items_left ks slots)
 left_of ks slots k = by (is_place ks k) refl
   where
-    by : (b : Bool) → is_place ks k ≡ b → (slot (left ks slots) k ≡ slot slots k) ⊎ (slot (left ks slots) k ≡ None)
+    by : (b : Bool) → is_place ks k ≡ b → (slot (items_left ks slots) k ≡ slot slots k) ⊎ (slot (items_left ks slots) k ≡ None)
     by true e = inr (left_at ks slots k ∙ ap (λ (b : Bool). cond b None (slot slots k)) e)
     by false e = inl (left_at ks slots k ∙ ap (λ (b : Bool). cond b None (slot slots k)) e)
 
@@ -80,7 +80,7 @@ left_again a b c l m k = by (m k)
         here (inr n) = inr (s ∙ n)
 
 -- a place is one of those that were emptied
-pub emptied_at : (ks : List ℕ) (slots : Slots) (k : ℕ) (x : Item) → slot slots k ≡ Some x → slot (left ks slots) k ≡ None → is_place ks k ≡ true
+pub emptied_at : (ks : List ℕ) (slots : Slots) (k : ℕ) (x : Item) → slot slots k ≡ Some x → slot (items_left ks slots) k ≡ None → is_place ks k ≡ true
 emptied_at ks slots k x s n = by (is_place ks k) refl
   where
     by : (b : Bool) → is_place ks k ≡ b → is_place ks k ≡ true
@@ -97,14 +97,14 @@ or_true : (b : Bool) → (b || true) ≡ true
 or_true true = refl
 or_true false = refl
 
-pub any_taken : (q : Item → Bool) (ks : List ℕ) (slots : Slots) (k : ℕ) (x : Item) → is_place ks k ≡ true → slot slots k ≡ Some x → q x ≡ true → list_any q (taken ks slots) ≡ true
+pub any_taken : (q : Item → Bool) (ks : List ℕ) (slots : Slots) (k : ℕ) (x : Item) → is_place ks k ≡ true → slot slots k ≡ Some x → q x ≡ true → list_any q (items_in_slots ks slots) ≡ true
 any_taken q [] slots k x p s e = absurd cc
-any_taken q (j ∷ ks) slots k x p s e = any_first q (slot slots j) (taken ks (without slots j)) ∙ by (j == k) refl p (λ p t. any_taken q ks (without slots j) k x p t e)
+any_taken q (j ∷ ks) slots k x p s e = any_first q (slot slots j) (items_in_slots ks (without slots j)) ∙ by (j == k) refl p (λ p t. any_taken q ks (without slots j) k x p t e)
   where
-    by : (b : Bool) → (j == k) ≡ b → (b || is_place ks k) ≡ true → (is_place ks k ≡ true → slot (without slots j) k ≡ Some x → list_any q (taken ks (without slots j)) ≡ true) → (option_map_or q (slot slots j) false || list_any q (taken ks (without slots j))) ≡ true
+    by : (b : Bool) → (j == k) ≡ b → (b || is_place ks k) ≡ true → (is_place ks k ≡ true → slot (without slots j) k ≡ Some x → list_any q (items_in_slots ks (without slots j)) ≡ true) → (option_map_or q (slot slots j) false || list_any q (items_in_slots ks (without slots j))) ≡ true
     by true f p more =
         let here : slot slots j ≡ Some x = ap (slot slots) (eqb-true j k f) ∙ s in
-        ap (λ (o : Option Item). option_map_or q o false || list_any q (taken ks (without slots j))) here ∙ ap (λ (b : Bool). b || list_any q (taken ks (without slots j))) e
+        ap (λ (o : Option Item). option_map_or q o false || list_any q (items_in_slots ks (without slots j))) here ∙ ap (λ (b : Bool). b || list_any q (items_in_slots ks (without slots j))) e
     by false f p more =
         let there : slot (without slots j) k ≡ Some x = slot_without slots j k ∙ ap (λ (b : Bool). cond b None (slot slots k)) f ∙ s in
         ap (λ (b : Bool). option_map_or q (slot slots j) false || b) (more p there) ∙ or_true (option_map_or q (slot slots j) false)
@@ -116,34 +116,34 @@ pub record Passes (q : Item → Bool) (slots : Slots) : Type 0 where
   pub there : slot slots place ≡ Some item
   pub passes : q item ≡ true
 
-pub some_taken : (q : Item → Bool) (ks : List ℕ) (slots : Slots) → list_any q (taken ks slots) ≡ true → Passes q slots
+pub some_taken : (q : Item → Bool) (ks : List ℕ) (slots : Slots) → list_any q (items_in_slots ks slots) ≡ true → Passes q slots
 some_taken q [] slots h = absurd cc
-some_taken q (j ∷ ks) slots h = by (slot slots j) refl (sym (any_first q (slot slots j) (taken ks (without slots j))) ∙ h) (λ h. behind (some_taken q ks (without slots j) h))
+some_taken q (j ∷ ks) slots h = by (slot slots j) refl (sym (any_first q (slot slots j) (items_in_slots ks (without slots j))) ∙ h) (λ h. behind (some_taken q ks (without slots j) h))
   where
     behind : Passes q (without slots j) → Passes q slots
     behind m = record { place = m.place; item = m.item; there = stood_there slots (without slots j) (left_of (j ∷ []) slots) m.place m.item m.there; passes = m.passes }
 
-    by : (o : Option Item) → slot slots j ≡ o → (option_map_or q o false || list_any q (taken ks (without slots j))) ≡ true → (list_any q (taken ks (without slots j)) ≡ true → Passes q slots) → Passes q slots
+    by : (o : Option Item) → slot slots j ≡ o → (option_map_or q o false || list_any q (items_in_slots ks (without slots j))) ≡ true → (list_any q (items_in_slots ks (without slots j)) ≡ true → Passes q slots) → Passes q slots
     by None e h more = more h
     by (Some x) e h more = here (q x) refl h
       where
-        here : (b : Bool) → q x ≡ b → (b || list_any q (taken ks (without slots j))) ≡ true → Passes q slots
+        here : (b : Bool) → q x ≡ b → (b || list_any q (items_in_slots ks (without slots j))) ≡ true → Passes q slots
         here true p h = record { place = j; item = x; there = e; passes = p }
         here false p h = more h
 
-pub all_taken : (P : Item → Type 0) (ks : List ℕ) (slots : Slots) → ((k : ℕ) (x : Item) → is_place ks k ≡ true → slot slots k ≡ Some x → P x) → AllByRecursion P (taken ks slots)
+pub all_taken : (P : Item → Type 0) (ks : List ℕ) (slots : Slots) → ((k : ℕ) (x : Item) → is_place ks k ≡ true → slot slots k ≡ Some x → P x) → AllByRecursion P (items_in_slots ks slots)
 all_taken P [] slots f = tt
 all_taken P (j ∷ ks) slots f = by (slot slots j) refl (all_taken P ks (without slots j) (λ k x p e. f k x (ap (λ (b : Bool). (j == k) || b) p ∙ or_true (j == k)) (stood_there slots (without slots j) (left_of (j ∷ []) slots) k x e)))
   where
-    by : (o : Option Item) → slot slots j ≡ o → AllByRecursion P (taken ks (without slots j)) → AllByRecursion P (option_to_list o ++ taken ks (without slots j))
+    by : (o : Option Item) → slot slots j ≡ o → AllByRecursion P (items_in_slots ks (without slots j)) → AllByRecursion P (option_to_list o ++ items_in_slots ks (without slots j))
     by None e h = h
     by (Some x) e h = (f j x (ap (λ (b : Bool). b || is_place ks j) (eq-eqb j j refl)) e, h)
 
 -- what is made of each item alone is made of all
-pub taken_alike : (g : List Item → List Item) → g [] ≡ [] → ((xs ys : List Item) → g (xs ++ ys) ≡ g xs ++ g ys) → (ks : List ℕ) (old new : Slots) → ((k : ℕ) → at new k ≡ g (at old k)) → taken ks new ≡ g (taken ks old)
+pub taken_alike : (g : List Item → List Item) → g [] ≡ [] → ((xs ys : List Item) → g (xs ++ ys) ≡ g xs ++ g ys) → (ks : List ℕ) (old new : Slots) → ((k : ℕ) → at new k ≡ g (at old k)) → items_in_slots ks new ≡ g (items_in_slots ks old)
 taken_alike g none both [] old new f = sym none
 taken_alike g none both (j ∷ ks) old new f =
-    ap₂ (λ (xs ys : List Item). xs ++ ys) (f j) (taken_alike g none both ks (without old j) (without new j) behind) ∙ sym (both (at old j) (taken ks (without old j)))
+    ap₂ (λ (xs ys : List Item). xs ++ ys) (f j) (taken_alike g none both ks (without old j) (without new j) behind) ∙ sym (both (at old j) (items_in_slots ks (without old j)))
   where
     by : (k : ℕ) (b : Bool) → option_to_list (cond b None (slot new k)) ≡ g (option_to_list (cond b None (slot old k)))
     by k true = sym none
@@ -167,9 +167,9 @@ length_first : (s : Option Item) (rest : List Item) → length (option_to_list s
 length_first None rest = omega arith
 length_first (Some x) rest = omega arith
 
-pub count_left : (ks : List ℕ) (slots : Slots) → length (taken ks slots) + count (left ks slots) ≡ count slots
+pub count_left : (ks : List ℕ) (slots : Slots) → length (items_in_slots ks slots) + count (items_left ks slots) ≡ count slots
 count_left [] slots = omega arith
-count_left (j ∷ ks) slots = omega (arith, length_first (slot slots j) (taken ks (without slots j)), count_left ks (without slots j), count_without slots j)
+count_left (j ∷ ks) slots = omega (arith, length_first (slot slots j) (items_in_slots ks (without slots j)), count_left ks (without slots j), count_without slots j)
 
 pub none_counted : (slots : Slots) → ((k : ℕ) → slot slots k ≡ None) → count slots ≡ 0
 none_counted [] f = refl
@@ -234,18 +234,18 @@ there_changed slots k f old new e h = ap (slice_set slots k) (h ∙ ap (option_m
 
 -- ---- one place more
 
-pub left_both : (slots : Slots) (ks js : List ℕ) → left (ks ++ js) slots ≡ left js (left ks slots)
+pub left_both : (slots : Slots) (ks js : List ℕ) → items_left (ks ++ js) slots ≡ items_left js (items_left ks slots)
 left_both slots [] js = refl
 left_both slots (k ∷ ks) js = left_both (without slots k) ks js
 
-pub taken_both : (slots : Slots) (ks js : List ℕ) → taken (ks ++ js) slots ≡ taken ks slots ++ taken js (left ks slots)
+pub taken_both : (slots : Slots) (ks js : List ℕ) → items_in_slots (ks ++ js) slots ≡ items_in_slots ks slots ++ items_in_slots js (items_left ks slots)
 taken_both slots [] js = refl
-taken_both slots (k ∷ ks) js = ap (λ (l : List Item). at slots k ++ l) (taken_both (without slots k) ks js) ∙ sym (append_assoc (at slots k) (taken ks (without slots k)) (taken js (left ks (without slots k))))
+taken_both slots (k ∷ ks) js = ap (λ (l : List Item). at slots k ++ l) (taken_both (without slots k) ks js) ∙ sym (append_assoc (at slots k) (items_in_slots ks (without slots k)) (items_in_slots js (items_left ks (without slots k))))
 
-pub taken_more : (slots : Slots) (ks : List ℕ) (k : ℕ) → taken (ks ++ k ∷ []) slots ≡ taken ks slots ++ at (left ks slots) k
-taken_more slots ks k = taken_both slots ks (k ∷ []) ∙ ap (λ (l : List Item). taken ks slots ++ l) (append-nil (at (left ks slots) k))
+pub taken_more : (slots : Slots) (ks : List ℕ) (k : ℕ) → items_in_slots (ks ++ k ∷ []) slots ≡ items_in_slots ks slots ++ at (items_left ks slots) k
+taken_more slots ks k = taken_both slots ks (k ∷ []) ∙ ap (λ (l : List Item). items_in_slots ks slots ++ l) (append-nil (at (items_left ks slots) k))
 
-pub length_left : (ks : List ℕ) (slots : Slots) → length (left ks slots) ≡ length slots
+pub length_left : (ks : List ℕ) (slots : Slots) → length (items_left ks slots) ≡ length slots
 length_left [] slots = refl
 length_left (k ∷ ks) slots = length_left ks (without slots k) ∙ length-set slots k None
 

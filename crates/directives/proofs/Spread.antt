@@ -7,7 +7,7 @@ use Rattle.mdl_ast.specs.declared.items.Item.{Item}
 use Rattle.mdl_ast.specs.declared.items.Item.TheVariants.{Include, Sync, Metric, Constraint, Hypothesis, Search, Phase, Wish}
 use Rattle.mdl_ast.specs.declared.items.Hypothesis.{Hypothesis as TheHypothesis}
 use Rattle.mdl_ast.specs.declared.items.Include.{Include as TheInclude}
-use Rattle.mdl_check.specs.Placed.{PlacedItem, placed, is_taken, with_included, placed_items}
+use Rattle.mdl_check.specs.Placed.{PlacedItem, placed_item, is_taken, with_included, placed_items}
 use Rattle.mdl_check.specs.Checking.{sync_of}
 use Rattle.directives.specs.Acts.{at_line, expansion, expanded}
 use Rattle.directives.proofs.Stripped.{strip, stripped, bare}
@@ -35,19 +35,19 @@ none_at_line f h line (Search s ∷ xs) = none_at_line f h line xs
 none_at_line f h line (Phase p ∷ xs) = none_at_line f h line xs
 none_at_line f h line (Wish w ∷ xs) = none_at_line f h line xs
 
-none_taken : {B : Type 0} (g : PlacedItem → List B) → ((line : ℕ) (h : TheHypothesis) → g (placed line (Hypothesis h)) ≡ []) → (line : ℕ) (xs : List Item) → flat_map g (map (placed line) (filter (is_taken false) xs)) ≡ []
+none_taken : {B : Type 0} (g : PlacedItem → List B) → ((line : ℕ) (h : TheHypothesis) → g (placed_item line (Hypothesis h)) ≡ []) → (line : ℕ) (xs : List Item) → flat_map g (map (placed_item line) (filter (is_taken false) xs)) ≡ []
 none_taken g h line [] = refl
 none_taken g h line (Include i ∷ xs) = none_taken g h line xs
 none_taken g h line (Sync s ∷ xs) = none_taken g h line xs
 none_taken g h line (Metric m ∷ xs) = none_taken g h line xs
 none_taken g h line (Constraint c ∷ xs) = none_taken g h line xs
-none_taken g h line (Hypothesis x ∷ xs) = ap (λ (l : List _). l ++ flat_map g (map (placed line) (filter (is_taken false) xs))) (h line x) ∙ none_taken g h line xs
+none_taken g h line (Hypothesis x ∷ xs) = ap (λ (l : List _). l ++ flat_map g (map (placed_item line) (filter (is_taken false) xs))) (h line x) ∙ none_taken g h line xs
 none_taken g h line (Search s ∷ xs) = none_taken g h line xs
 none_taken g h line (Phase p ∷ xs) = none_taken g h line xs
 none_taken g h line (Wish w ∷ xs) = none_taken g h line xs
 
 -- what shows no hypothesis, and no include of them
-module _ {B : Type 0} (g : PlacedItem → List B) (hyp : (line : ℕ) (h : TheHypothesis) → g (placed line (Hypothesis h)) ≡ []) (incl : (line : ℕ) (i : TheInclude) → i.metrics ≡ false → g (placed line (Include i)) ≡ []) where
+module _ {B : Type 0} (g : PlacedItem → List B) (hyp : (line : ℕ) (h : TheHypothesis) → g (placed_item line (Hypothesis h)) ≡ []) (incl : (line : ℕ) (i : TheInclude) → i.metrics ≡ false → g (placed_item line (Include i)) ≡ []) where
   pub hidden_item : (shipped : List Item) (h : TheHypothesis) → by_item g shipped (Hypothesis h) ≡ []
   hidden_item shipped h = ap (λ (l : List B). l ++ []) (hyp h.line h)
 
@@ -55,11 +55,11 @@ module _ {B : Type 0} (g : PlacedItem → List B) (hyp : (line : ℕ) (h : TheHy
   alone shipped item = append-nil (by_item g shipped item)
 
   one_include : (shipped : List Item) (i : TheInclude) (metrics : Bool) → i.metrics ≡ metrics →
-      flat_map (by_item g shipped) (cond metrics (Include i ∷ []) (flat_map (at_line i.line) shipped)) ≡ g (placed i.line (Include i)) ++ flat_map g (map (placed i.line) (filter (is_taken metrics) shipped))
-  one_include shipped i true m = append-nil (by_item g shipped (Include i)) ∙ ap (λ (b : Bool). g (placed i.line (Include i)) ++ flat_map g (map (placed i.line) (filter (is_taken b) shipped))) m
+      flat_map (by_item g shipped) (cond metrics (Include i ∷ []) (flat_map (at_line i.line) shipped)) ≡ g (placed_item i.line (Include i)) ++ flat_map g (map (placed_item i.line) (filter (is_taken metrics) shipped))
+  one_include shipped i true m = append-nil (by_item g shipped (Include i)) ∙ ap (λ (b : Bool). g (placed_item i.line (Include i)) ++ flat_map g (map (placed_item i.line) (filter (is_taken b) shipped))) m
   one_include shipped i false m =
       none_at_line (by_item g shipped) (hidden_item shipped) i.line shipped
-      ∙ sym (ap (λ (l : List B). l ++ flat_map g (map (placed i.line) (filter (is_taken false) shipped))) (incl i.line i m) ∙ none_taken g hyp i.line shipped)
+      ∙ sym (ap (λ (l : List B). l ++ flat_map g (map (placed_item i.line) (filter (is_taken false) shipped))) (incl i.line i m) ∙ none_taken g hyp i.line shipped)
 
   same_item : (shipped : List Item) (item : Item) → flat_map (by_item g shipped) (expansion shipped item) ≡ by_item g shipped item
   same_item shipped (Include i) = one_include shipped i i.metrics refl
@@ -87,7 +87,7 @@ module _ {B : Type 0} (g : PlacedItem → List B) (hyp : (line : ℕ) (h : TheHy
 abbrev pub placed_stripped : PlacedItem → List TheHypothesis
 placed_stripped s = strip s.item
 
-others_bare : (line : ℕ) (xs : List Item) → flat_map placed_stripped (map (placed line) (filter (is_taken true) xs)) ≡ []
+others_bare : (line : ℕ) (xs : List Item) → flat_map placed_stripped (map (placed_item line) (filter (is_taken true) xs)) ≡ []
 others_bare line [] = refl
 others_bare line (Include i ∷ xs) = others_bare line xs
 others_bare line (Sync s ∷ xs) = others_bare line xs
@@ -98,7 +98,7 @@ others_bare line (Search s ∷ xs) = others_bare line xs
 others_bare line (Phase p ∷ xs) = others_bare line xs
 others_bare line (Wish w ∷ xs) = others_bare line xs
 
-taken_bare : (line : ℕ) (xs : List Item) → flat_map placed_stripped (map (placed line) (filter (is_taken false) xs)) ≡ stripped (flat_map (at_line line) xs)
+taken_bare : (line : ℕ) (xs : List Item) → flat_map placed_stripped (map (placed_item line) (filter (is_taken false) xs)) ≡ stripped (flat_map (at_line line) xs)
 taken_bare line [] = refl
 taken_bare line (Include i ∷ xs) = taken_bare line xs
 taken_bare line (Sync s ∷ xs) = taken_bare line xs
@@ -110,7 +110,7 @@ taken_bare line (Phase p ∷ xs) = taken_bare line xs
 taken_bare line (Wish w ∷ xs) = taken_bare line xs
 
 bare_include : (shipped : List Item) (i : TheInclude) (metrics : Bool) →
-    flat_map placed_stripped (map (placed i.line) (filter (is_taken metrics) shipped)) ≡ stripped (cond metrics (Include i ∷ []) (flat_map (at_line i.line) shipped))
+    flat_map placed_stripped (map (placed_item i.line) (filter (is_taken metrics) shipped)) ≡ stripped (cond metrics (Include i ∷ []) (flat_map (at_line i.line) shipped))
 bare_include shipped i true = others_bare i.line shipped
 bare_include shipped i false = taken_bare i.line shipped
 
@@ -228,10 +228,10 @@ fewer_includes shipped items =
 abbrev pub keep : PlacedItem → List PlacedItem
 keep s = cond (is_other s.item) (s ∷ []) []
 
-count_item : (line : ℕ) (item : Item) → 1 ≡ length (keep (placed line item)) + (length (strip item) + length (hyp_include item))
+count_item : (line : ℕ) (item : Item) → 1 ≡ length (keep (placed_item line item)) + (length (strip item) + length (hyp_include item))
 count_item line (Include i) = by i.metrics
   where
-    by : (b : Bool) → 1 ≡ length (cond b (placed line (Include i) ∷ []) []) + (0 + length (cond b [] (Include i ∷ [])))
+    by : (b : Bool) → 1 ≡ length (cond b (placed_item line (Include i) ∷ []) []) + (0 + length (cond b [] (Include i ∷ [])))
     by true = refl
     by false = refl
 count_item line (Sync s) = refl

@@ -15,7 +15,7 @@ use Rattle.resource_tree.specs.Resources.{Resources}
 use Rattle.mdl_check.specs.declared.checked.Checked.{Checked}
 use Rattle.mdl_check.specs.declared.checked.CheckedWish.{CheckedWish}
 use Rattle.mdl_check.specs.declared.fault.CheckFault.{CheckFault}
-use Rattle.mdl_check.specs.Placed.{PlacedItem, Entry, placed, entry, is_taken, placed_items}
+use Rattle.mdl_check.specs.Placed.{PlacedItem, Entry, placed_item, entry, is_taken, placed_items}
 use Rattle.mdl_check.specs.Checking.{AreEntries, placed_of, metric_of, constraint_of, hypothesis_of, phase_of, search_behind, search_in, wish_with, wish_of, checked_of, IsAnswer, OneAnswer}
 use Rattle.directives.specs.Acts.{at_line, expansion, expanded}
 use Rattle.directives.specs.Laws.{hypothesis_in, SameHypotheses, OthersStay}
@@ -89,7 +89,7 @@ wishes_of_others all =
 abbrev placed_hypothesis : PlacedItem → List TheHypothesis
 placed_hypothesis s = hypothesis_of s.line s.item
 
-others_none : (line : ℕ) (xs : List Item) → flat_map placed_hypothesis (map (placed line) (filter (is_taken true) xs)) ≡ []
+others_none : (line : ℕ) (xs : List Item) → flat_map placed_hypothesis (map (placed_item line) (filter (is_taken true) xs)) ≡ []
 others_none line [] = refl
 others_none line (Include x ∷ xs) = others_none line xs
 others_none line (Sync x ∷ xs) = others_none line xs
@@ -100,7 +100,7 @@ others_none line (Search x ∷ xs) = others_none line xs
 others_none line (Phase x ∷ xs) = others_none line xs
 others_none line (Wish x ∷ xs) = others_none line xs
 
-taken_lined : (line : ℕ) (xs : List Item) → flat_map placed_hypothesis (map (placed line) (filter (is_taken false) xs)) ≡ flat_map hypothesis_in (flat_map (at_line line) xs)
+taken_lined : (line : ℕ) (xs : List Item) → flat_map placed_hypothesis (map (placed_item line) (filter (is_taken false) xs)) ≡ flat_map hypothesis_in (flat_map (at_line line) xs)
 taken_lined line [] = refl
 taken_lined line (Include x ∷ xs) = taken_lined line xs
 taken_lined line (Sync x ∷ xs) = taken_lined line xs
@@ -112,7 +112,7 @@ taken_lined line (Phase x ∷ xs) = taken_lined line xs
 taken_lined line (Wish x ∷ xs) = taken_lined line xs
 
 lined_include : (shipped : List Item) (i : TheInclude) (metrics : Bool) →
-    flat_map placed_hypothesis (map (placed i.line) (filter (is_taken metrics) shipped)) ≡ flat_map hypothesis_in (cond metrics (Include i ∷ []) (flat_map (at_line i.line) shipped))
+    flat_map placed_hypothesis (map (placed_item i.line) (filter (is_taken metrics) shipped)) ≡ flat_map hypothesis_in (cond metrics (Include i ∷ []) (flat_map (at_line i.line) shipped))
 lined_include shipped i true = others_none i.line shipped
 lined_include shipped i false = taken_lined i.line shipped
 

@@ -4,7 +4,7 @@ use Rattle.std.specs.Str.{bytes_eq}
 use Rattle.mdl_ast.specs.declared.items.Item.{Item}
 use Rattle.mdl_ast.specs.declared.items.Item.TheVariants.{Include, Hypothesis}
 use Rattle.mdl_ast.specs.declared.items.Hypothesis.{Hypothesis as TheHypothesis}
-use Rattle.directives.specs.Hypotheses.{is_named, stands, has_axis}
+use Rattle.directives.specs.Hypotheses.{is_named, has_hypothesis, has_axis}
 use Rattle.directives.specs.declared.directive.Directive.{Directive}
 use Rattle.directives.specs.declared.directive.DirectiveAct.{DirectiveAct}
 use Rattle.directives.specs.declared.directive.DirectiveAct.TheVariants.{Prune, PruneAxis, Threshold, First}
@@ -56,9 +56,9 @@ pruned name items = filter (λ item. not (is_under items (length items) name ite
 -- ---- a change of a hypothesis
 
 -- the hypothesis of this name is changed, and no other item
-abbrev pub changed : List ℕ → (TheHypothesis → TheHypothesis) → Item → Item
-changed name change (Hypothesis h) = if bytes_eq name h.name then Hypothesis (change h) else Hypothesis h
-changed name change item = item
+abbrev pub with_hypothesis : List ℕ → (TheHypothesis → TheHypothesis) → Item → Item
+with_hypothesis name change (Hypothesis h) = if bytes_eq name h.name then Hypothesis (change h) else Hypothesis h
+with_hypothesis name change item = item
 
 abbrev pub without_axis : List ℕ → TheHypothesis → TheHypothesis
 without_axis axis h = record h { axes = filter (λ other. not (bytes_eq axis other)) h.axes }
@@ -88,23 +88,23 @@ is_astray act items = false
 -- what is wrong with an act on these items
 abbrev pub kind_of : DirectiveAct → List Item → Option DirectiveKind
 kind_of act items =
-    if not (stands (name_of act) items) then Some UnknownName
+    if not (has_hypothesis (name_of act) items) then Some UnknownName
     else if is_astray act items then Some WrongKind
     else None
 
 -- what the act makes of the items
-abbrev pub acted : DirectiveAct → List Item → List Item
-acted (Prune name) items = pruned name items
-acted (PruneAxis name axis) items = map (changed name (without_axis axis)) items
-acted (Threshold name threshold) items = map (changed name (with_threshold threshold)) items
-acted (First name) items = with_first name items
+abbrev pub items_after_act : DirectiveAct → List Item → List Item
+items_after_act (Prune name) items = pruned name items
+items_after_act (PruneAxis name axis) items = map (with_hypothesis name (without_axis axis)) items
+items_after_act (Threshold name threshold) items = map (with_hypothesis name (with_threshold threshold)) items
+items_after_act (First name) items = with_first name items
 
 -- ---- directives, in their order
 
 -- those after one that has no fault, or its fault
 abbrev pub go_on : (List Item → Result (List Item) DirectiveFault) → Directive → List Item → Option DirectiveKind
     → Result (List Item) DirectiveFault
-go_on more d items None = more (acted d.act items)
+go_on more d items None = more (items_after_act d.act items)
 go_on more d items (Some kind) = Err (record { line = d.line; col = 0; kind = kind })
 
 unfoldable pub directed : List Directive → List Item → Result (List Item) DirectiveFault

@@ -4,7 +4,7 @@ use Rattle.pn_text.specs.Scans.{Scan, Ending, AtEnd, AtFault, AreSpans, tokens_o
 use Rattle.pn_text.specs.declared.token.Token.{Token}
 use Rattle.pn_text.specs.declared.token.LexFault.{LexFault}
 use Rattle.mdl_parse.specs.Lexing.{tokens_ahead, HasEnded}
-use Rattle.mdl_parse.specs.Steps.{Read, behind, taken}
+use Rattle.mdl_parse.specs.Steps.{Read, words_after, some_read}
 use Rattle.mdl_parse.specs.WordsInText.{PlacedWord, placed_word, placed_words}
 use Rattle.directives.specs.declared.fault.DirectiveFault.{DirectiveFault}
 use Rattle.directives.specs.declared.fault.DirectiveKind.TheVariants as kind
@@ -15,12 +15,12 @@ use Rattle.directives.specs.Meaning.{lex_kind}
 -- it stops where reading stops, unless memory runs out
 abbrev pub StopsAt : {A : Type 0} → Stop → List PlacedWord → Read A → Type 0
 StopsAt NoMemory rest read = Unit {0}
-StopsAt Unexpected rest read = read ≡ taken None rest
+StopsAt Unexpected rest read = read ≡ some_read None rest
 
 -- it returns what was read, and leaves what is left
-abbrev pub Gives : {A : Type 0} → Result A Stop → List PlacedWord → Read A → Type 0
-Gives (Ok a) rest read = read ≡ Ok (a, rest)
-Gives (Err why) rest read = StopsAt why rest read
+abbrev pub IsAheadRead : {A : Type 0} → Result A Stop → List PlacedWord → Read A → Type 0
+IsAheadRead (Ok a) rest read = read ≡ Ok (a, rest)
+IsAheadRead (Err why) rest read = StopsAt why rest read
 
 -- ---- the words in view
 
@@ -34,8 +34,8 @@ abbrev pub ahead : List ℕ → Ahead
 ahead text = record { words_ahead = placed_words text; ending = (tokens_of text).ending }
 
 -- what stands after the first
-abbrev pub passed : Ahead → Ahead
-passed a = record { words_ahead = behind a.words_ahead; ending = a.ending }
+abbrev pub ahead_after : Ahead → Ahead
+ahead_after a = record { words_ahead = words_after a.words_ahead; ending = a.ending }
 
 -- a token in view, and those after it
 abbrev pub in_view : List ℕ → Option Token → Scan → Ahead

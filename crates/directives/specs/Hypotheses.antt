@@ -11,8 +11,8 @@ is_named name (Hypothesis h) = bytes_eq name h.name
 is_named name item = false
 
 -- a hypothesis of this name stands among the items
-abbrev pub stands : List ℕ → List Item → Bool
-stands name items = list_any (is_named name) items
+abbrev pub has_hypothesis : List ℕ → List Item → Bool
+has_hypothesis name items = list_any (is_named name) items
 
 -- a hypothesis of this name that is refined along this axis
 abbrev pub is_along : List ℕ → List ℕ → Item → Bool
@@ -26,7 +26,7 @@ has_axis name axis items = list_any (is_along name axis) items
 -- there is a parent, and it doesn't stand among the items
 abbrev pub lacks : List Item → Option (List ℕ) → Bool
 lacks items None = false
-lacks items (Some parent) = not (stands parent items)
+lacks items (Some parent) = not (has_hypothesis parent items)
 
 -- a hypothesis whose parent doesn't stand among the items
 abbrev pub is_orphan : List Item → Item → Bool

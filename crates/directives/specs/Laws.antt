@@ -11,7 +11,7 @@ use Rattle.resource_tree.specs.Resources.{Resources}
 use Rattle.directives.specs.declared.directive.Directive.{Directive}
 use Rattle.directives.specs.declared.directive.DirectiveAct.{DirectiveAct}
 use Rattle.directives.specs.declared.directive.DirectiveAct.TheVariants.{Prune, PruneAxis, Threshold}
-use Rattle.directives.specs.Hypotheses.{stands, has_axis}
+use Rattle.directives.specs.Hypotheses.{has_hypothesis, has_axis}
 use Rattle.directives.specs.Acts.{expanded, applied}
 use Rattle.directives.specs.Applying.{IsAccepted}
 
@@ -43,7 +43,7 @@ PrunedIsGone =
     (t : Resources) (shipped items made : List Item) (directives : List Directive) (pruned : List ℕ)
     → IsAccepted t shipped items → applied shipped items directives ≡ Ok made
     → list_any (λ d. is_prune pruned d.act) directives ≡ true
-    → (stands pruned made ≡ false) × ((name : List ℕ) → IsAncestor (expanded shipped items) pruned name → stands name made ≡ false)
+    → (has_hypothesis pruned made ≡ false) × ((name : List ℕ) → IsAncestor (expanded shipped items) pruned name → has_hypothesis name made ≡ false)
 
 -- ---- pruned axes
 

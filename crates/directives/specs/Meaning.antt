@@ -50,13 +50,13 @@ pub data IsFault (text : List ℕ) : ℕ → ℕ → DirectiveKind → Type 0 wh
       ((directives : List Directive) → AreOf (placed_words text) directives → ⊥) → IsFault text last.line last.col Unexpected
 
 -- the text has that fault
-abbrev pub Faults : List ℕ → DirectiveFault → Type 0
-Faults text fault = IsFault text fault.line fault.col fault.kind
+abbrev pub DirectiveFaults : List ℕ → DirectiveFault → Type 0
+DirectiveFaults text fault = IsFault text fault.line fault.col fault.kind
 
 -- why a call was refused; running out of memory is always allowed
-abbrev pub Refuses : DirectiveError → (DirectiveFault → Type 0) → Type 0
-Refuses (error.Fault fault) why = why fault
-Refuses error.NoMemory why = Unit {0}
+abbrev pub DirectiveRefuses : DirectiveError → (DirectiveFault → Type 0) → Type 0
+DirectiveRefuses (error.Fault fault) why = why fault
+DirectiveRefuses error.NoMemory why = Unit {0}
 
 -- ---- a text has one meaning
 

@@ -24,14 +24,14 @@ abbrev pub with_change : List (Option Item) → ℕ → (Item → Item) → List
 with_change slots k change = slice_set slots k (option_map change (slot slots k))
 
 -- what is taken out of places, one after another
-abbrev pub taken : List ℕ → List (Option Item) → List Item
-taken [] slots = []
-taken (k ∷ ks) slots = option_to_list (slot slots k) ++ taken ks (without slots k)
+abbrev pub items_in_slots : List ℕ → List (Option Item) → List Item
+items_in_slots [] slots = []
+items_in_slots (k ∷ ks) slots = option_to_list (slot slots k) ++ items_in_slots ks (without slots k)
 
 -- what is left then
-abbrev pub left : List ℕ → List (Option Item) → List (Option Item)
-left [] slots = slots
-left (k ∷ ks) slots = left ks (without slots k)
+abbrev pub items_left : List ℕ → List (Option Item) → List (Option Item)
+items_left [] slots = slots
+items_left (k ∷ ks) slots = items_left ks (without slots k)
 
 -- what stands at each place stood there before
 abbrev pub IsLeftOf : List (Option Item) → List (Option Item) → Type 0
@@ -46,7 +46,7 @@ abbrev pub order : List (Option Item) → List ℕ → List ℕ
 order slots moved = reverse moved ++ range_with_len 0 (length slots)
 
 unfoldable pub standing : List (Option Item) → List ℕ → List Item
-standing slots moved = taken (order slots moved) slots
+standing slots moved = items_in_slots (order slots moved) slots
 
 -- ---- places under names
 

@@ -5,10 +5,10 @@ ghost use Rattle.std.specs.List.{AllByRecursion};
 ghost use Rattle.mdl_ast.specs.Small.{HasSmall};
 ghost use Rattle.mdl_check.specs.Placed.{placed_items};
 ghost use Rattle.mdl_check.specs.Checking.{prefixes_of};
-ghost use Rattle.directives.specs.Hypotheses.{stands};
-ghost use Rattle.directives.specs.Acts.{name_of, is_astray, kind_of, acted, applied};
+ghost use Rattle.directives.specs.Hypotheses.{has_hypothesis};
+ghost use Rattle.directives.specs.Acts.{name_of, is_astray, kind_of, items_after_act, applied};
 ghost use Rattle.directives.specs.Applying.{IsAccepted};
-ghost use Rattle.directives.specs.Meaning.{Refuses};
+ghost use Rattle.directives.specs.Meaning.{DirectiveRefuses};
 
 use crate::directive::{Directive, DirectiveAct};
 use crate::expansion::expanded;
@@ -56,8 +56,8 @@ fn kind_of(act: &DirectiveAct, standing: &Standing) -> Option<DirectiveKind>
 
 /// Does to the items what a directive says.
 fn act_on(alloc: Global, standing: &mut Standing, act: &DirectiveAct) -> Result<(), NoMemory>
-    requires { stands (name_of act.now) standing.old ≡ true }
-    ensures { OnOk result (standing.new ≡ acted act.now standing.old) }
+    requires { has_hypothesis (name_of act.now) standing.old ≡ true }
+    ensures { OnOk result (standing.new ≡ items_after_act act.now standing.old) }
 {
     match act {
         DirectiveAct::Prune(name) => standing.prune(alloc, name.bytes()),
@@ -98,7 +98,7 @@ pub fn apply(
 ) -> Result<Conf, DirectiveError>
     requires { IsAccepted tree.now shipped.now.items conf.now.items }
     ensures applied { IfOk result (λ made. applied shipped.now.items conf.now.items directives.now ≡ Ok made.items) }
-    ensures fault { IfErr result (λ e. Refuses e (λ fault. applied shipped.now.items conf.now.items directives.now ≡ Err fault)) }
+    ensures fault { IfErr result (λ e. DirectiveRefuses e (λ fault. applied shipped.now.items conf.now.items directives.now ≡ Err fault)) }
     // The check accepts what is made.
     ensures accepted { IfOk result (λ made. IsAccepted tree.now shipped.now.items made.items) }
     // The objects of the tree come from these.

@@ -3,8 +3,8 @@
 ghost use Rattle.std.specs.Prelude.{◌≡◌, ◌≤◌, length, codes, IfOk, IfErr};
 ghost use Rattle.mdl_parse.specs.Shapes.{is_keyword};
 ghost use Rattle.mdl_parse.specs.Steps.{option_at};
-ghost use Rattle.directives.specs.Ahead.{Gives};
-ghost use Rattle.directives.specs.Meaning.{IsDirectives, Faults, Refuses};
+ghost use Rattle.directives.specs.Ahead.{IsAheadRead};
+ghost use Rattle.directives.specs.Meaning.{IsDirectives, DirectiveFaults, DirectiveRefuses};
 ghost use Rattle.directives.specs.Reading.{axis_at, prune_at, threshold_at, first_at, directive_at, directives_at};
 
 use crate::directive::{Directive, DirectiveAct};
@@ -18,7 +18,7 @@ impl<'a> Words<'a> {
     /// Passes the axis of a prune, where it has one.
     #[tactic(auto, unfolding(crate::specs::Reading::axis_at, mdl_parse::specs::Steps::option_at))]
     fn axis(&mut self, alloc: Global) -> Result<Option<Text>, Stop>
-        ensures read { Gives result self.new.words_ahead (option_at (is_keyword (codes "axis")) axis_at self.old.words_ahead) }
+        ensures read { IsAheadRead result self.new.words_ahead (option_at (is_keyword (codes "axis")) axis_at self.old.words_ahead) }
         ensures ending { self.new.ending ≡ self.old.ending }
     {
         if self.is_keyword(b"axis") {
@@ -32,7 +32,7 @@ impl<'a> Words<'a> {
     /// Passes a prune.
     #[tactic(auto, unfolding(crate::specs::Reading::prune_at))]
     fn prune(&mut self, alloc: Global) -> Result<Directive, Stop>
-        ensures read { Gives result self.new.words_ahead (prune_at self.old.words_ahead) }
+        ensures read { IsAheadRead result self.new.words_ahead (prune_at self.old.words_ahead) }
         ensures ending { self.new.ending ≡ self.old.ending }
     {
         let line = self.start(b"prune")?;
@@ -49,7 +49,7 @@ impl<'a> Words<'a> {
     /// Passes a threshold.
     #[tactic(auto, unfolding(crate::specs::Reading::threshold_at))]
     fn threshold(&mut self, alloc: Global) -> Result<Directive, Stop>
-        ensures read { Gives result self.new.words_ahead (threshold_at self.old.words_ahead) }
+        ensures read { IsAheadRead result self.new.words_ahead (threshold_at self.old.words_ahead) }
         ensures ending { self.new.ending ≡ self.old.ending }
     {
         let line = self.start(b"threshold")?;
@@ -63,7 +63,7 @@ impl<'a> Words<'a> {
     /// Passes a first.
     #[tactic(auto, unfolding(crate::specs::Reading::first_at))]
     fn first(&mut self, alloc: Global) -> Result<Directive, Stop>
-        ensures read { Gives result self.new.words_ahead (first_at self.old.words_ahead) }
+        ensures read { IsAheadRead result self.new.words_ahead (first_at self.old.words_ahead) }
         ensures ending { self.new.ending ≡ self.old.ending }
     {
         let line = self.start(b"first")?;
@@ -76,7 +76,7 @@ impl<'a> Words<'a> {
     /// Passes a directive.
     #[tactic(auto, unfolding(crate::specs::Reading::directive_at))]
     fn directive(&mut self, alloc: Global) -> Result<Directive, Stop>
-        ensures read { Gives result self.new.words_ahead (directive_at self.old.words_ahead) }
+        ensures read { IsAheadRead result self.new.words_ahead (directive_at self.old.words_ahead) }
         ensures ending { self.new.ending ≡ self.old.ending }
     {
         if self.is_keyword(b"prune") {
@@ -91,7 +91,7 @@ impl<'a> Words<'a> {
     /// Passes all directives, up to the end.
     #[tactic(auto, using(mdl_parse::proofs::Loops::loop_shorter, mdl_parse::proofs::Loops::loop_more, mdl_parse::proofs::Loops::loop_all, crate::proofs::Rules::loop_stops, crate::proofs::Rules::directives_loop))]
     fn directives(&mut self, alloc: Global) -> Result<Seq<Directive>, Stop>
-        ensures read { Gives result self.new.words_ahead (directives_at self.old.words_ahead) }
+        ensures read { IsAheadRead result self.new.words_ahead (directives_at self.old.words_ahead) }
         ensures ending { self.new.ending ≡ self.old.ending }
     {
         let mut directives = Vec::new(alloc);
@@ -118,7 +118,7 @@ impl<'a> Words<'a> {
 pub fn read_directives(alloc: Global, text: &[u8]) -> Result<Seq<Directive>, DirectiveError>
     requires { length text.now ≤ 1048576 }
     ensures read { IfOk result (λ directives. IsDirectives text.now directives) }
-    ensures fault { IfErr result (λ e. Refuses e (λ fault. Faults text.now fault)) }
+    ensures fault { IfErr result (λ e. DirectiveRefuses e (λ fault. DirectiveFaults text.now fault)) }
 {
     let mut words = Words::new(text);
     match words.directives(alloc) {

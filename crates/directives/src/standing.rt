@@ -4,9 +4,9 @@ ghost use Rattle.std.specs.Prelude.{◌≡◌, ◌++◌, List, ℕ, true, length
 ghost use Rattle.std.specs.List.{range_with_len};
 ghost use Rattle.std.specs.Option.{option_map};
 ghost use Rattle.first_places.specs.Numbers.{with_number};
-ghost use Rattle.directives.specs.Hypotheses.{is_named, is_along, stands, has_axis};
-ghost use Rattle.directives.specs.Acts.{changed, without_axis, with_threshold, with_first, pruned};
-ghost use Rattle.directives.specs.Standing.{taken, under, is_child, first_at, HaveOwnNames};
+ghost use Rattle.directives.specs.Hypotheses.{is_named, is_along, has_hypothesis, has_axis};
+ghost use Rattle.directives.specs.Acts.{with_hypothesis, without_axis, with_threshold, with_first, pruned};
+ghost use Rattle.directives.specs.Standing.{items_in_slots, under, is_child, first_at, HaveOwnNames};
 
 use crate::change::{drop_axis, set_threshold};
 use crate::hypotheses::{is_along, is_named};
@@ -89,7 +89,7 @@ fn first_at<'a>(slots: &'a [Option<Item>], places: &[usize]) -> Option<&'a Item>
 
 /// Takes all that still stand, in the order of their places, and puts them last.
 fn take_all(slots: &mut [Option<Item>], out: &mut Vec<Item>) -> Result<(), NoMemory>
-    ensures { OnOk result (out.new.items ≡ out.old.items ++ taken (range_with_len 0 (length slots.old)) slots.old) }
+    ensures { OnOk result (out.new.items ≡ out.old.items ++ items_in_slots (range_with_len 0 (length slots.old)) slots.old) }
 {
     for place in 0..slots.len() {
         take_item(slots, place, out)?;
@@ -120,7 +120,7 @@ impl Standing {
 
     /// Whether a hypothesis of this name stands.
     pub(crate) fn stands(&self, name: &[u8]) -> bool
-        ensures { result ≡ stands name.now self.now }
+        ensures { result ≡ has_hypothesis name.now self.now }
     {
         match first_at(self.slots.as_slice(), self.named.under(name)) {
             Some(item) => is_named(name, item),
@@ -140,7 +140,7 @@ impl Standing {
 
     /// Takes away the hypothesis of this name, and all that have it as an ancestor.
     pub(crate) fn prune(&mut self, alloc: Global, name: &[u8]) -> Result<(), NoMemory>
-        requires { stands name.now self.old ≡ true }
+        requires { has_hypothesis name.now self.old ≡ true }
         ensures { OnOk result (self.new ≡ pruned name.now self.old) }
     {
         take_under(
@@ -159,7 +159,7 @@ impl Standing {
         name: &[u8],
         axis: &[u8],
     ) -> Result<(), NoMemory>
-        ensures { OnOk result (self.new ≡ map (changed name.now (without_axis axis.now)) self.old) }
+        ensures { OnOk result (self.new ≡ map (with_hypothesis name.now (without_axis axis.now)) self.old) }
     {
         let Some(place) = self.named.first(name) else {
             return Ok(());
@@ -169,7 +169,7 @@ impl Standing {
 
     /// Sets the threshold of the hypothesis of this name.
     pub(crate) fn set_threshold(&mut self, name: &[u8], threshold: u32)
-        ensures { self.new ≡ map (changed name.now (with_threshold threshold)) self.old }
+        ensures { self.new ≡ map (with_hypothesis name.now (with_threshold threshold)) self.old }
     {
         if let Some(place) = self.named.first(name) {
             set_threshold(self.slots.as_mut_slice(), place, name, threshold);
@@ -178,7 +178,7 @@ impl Standing {
 
     /// Puts the hypothesis of this name before all others.
     pub(crate) fn put_first(&mut self, name: &[u8]) -> Result<(), NoMemory>
-        requires { stands name.now self.old ≡ true }
+        requires { has_hypothesis name.now self.old ≡ true }
         ensures { OnOk result (self.new ≡ with_first name.now self.old) }
     {
         if let Some(place) = self.named.first(name) {

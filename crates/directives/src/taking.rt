@@ -1,8 +1,8 @@
 //! Items that are taken out of their places.
 
 ghost use Rattle.std.specs.Prelude.{◌≡◌, ◌++◌, List, ℕ, true, option_to_list, OnOk};
-ghost use Rattle.directives.specs.Standing.{under, slot, without, taken, left, IsLeftOf, children_of, ArePlaces, standing};
-ghost use Rattle.directives.specs.Hypotheses.{stands};
+ghost use Rattle.directives.specs.Standing.{under, slot, without, items_in_slots, items_left, IsLeftOf, children_of, ArePlaces, standing};
+ghost use Rattle.directives.specs.Hypotheses.{has_hypothesis};
 ghost use Rattle.directives.specs.Acts.{pruned};
 
 use crate::name_places::NamePlaces;
@@ -43,8 +43,8 @@ pub(crate) fn take_items(
     out: &mut Vec<Item>,
 ) -> Result<(), NoMemory>
     ensures left { IsLeftOf slots.old slots.new }
-    ensures slots { OnOk result (slots.new ≡ left places.now slots.old) }
-    ensures out { OnOk result (out.new.items ≡ out.old.items ++ taken places.now slots.old) }
+    ensures slots { OnOk result (slots.new ≡ items_left places.now slots.old) }
+    ensures out { OnOk result (out.new.items ≡ out.old.items ++ items_in_slots places.now slots.old) }
 {
     for &place in places {
         take_item(slots, place, out)?;
@@ -72,7 +72,7 @@ pub(crate) fn take_under(
 ) -> Result<(), NoMemory>
     requires { ArePlaces slots.old (under named.now) (under children.now) }
     ensures left { IsLeftOf slots.old slots.new }
-    ensures pruned { OnOk result ((moved : List ℕ) → stands name.now (standing slots.old moved) ≡ true
+    ensures pruned { OnOk result ((moved : List ℕ) → has_hypothesis name.now (standing slots.old moved) ≡ true
         → standing slots.new moved ≡ pruned name.now (standing slots.old moved)) }
 {
     let mut parents = Vec::new(alloc);

@@ -6,12 +6,12 @@ ghost use Rattle.std.specs.Prelude.{◌≡◌, ◌+◌, ◌<◌, ◌^◌, length
 ghost use Rattle.std.specs.Option.{option_map, option_and_then};
 ghost use Rattle.pn_text.specs.declared.token.Sign.TheVariants.{Semicolon};
 ghost use Rattle.mdl_parse.specs.Lexing.{tokens_ahead, HasEnded};
-ghost use Rattle.mdl_parse.specs.Picks.{is_any, is_sign, name_of, number_of};
+ghost use Rattle.mdl_parse.specs.Picks.{is_any, is_sign, name_of, word_number};
 ghost use Rattle.mdl_parse.specs.Readers.{keyword_at, sign_at, start_at, name_at, number_at};
 ghost use Rattle.mdl_parse.specs.Shapes.{is_keyword};
 ghost use Rattle.mdl_parse.specs.Steps.{first_word, is_first, line_at};
 ghost use Rattle.directives.specs.declared.stop.Stop.TheVariants.{NoMemory};
-ghost use Rattle.directives.specs.Ahead.{Gives, ahead, passed, fault_in, unread_in};
+ghost use Rattle.directives.specs.Ahead.{IsAheadRead, ahead, ahead_after, fault_in, unread_in};
 
 use crate::fault::{DirectiveFault, DirectiveKind, lex_fault};
 use crate::stop::Stop;
@@ -103,7 +103,7 @@ impl<'a> Words<'a> {
 
     /// The number in view.
     fn number_in_view(&self) -> Option<u32>
-        ensures { result ≡ option_and_then number_of (first_word self.now.words_ahead) }
+        ensures { result ≡ option_and_then word_number (first_word self.now.words_ahead) }
     {
         match self.token?.kind {
             TokenKind::Number(number) => Some(number),
@@ -133,7 +133,7 @@ impl<'a> Words<'a> {
 
     /// Passes the word in view.
     fn advance(&mut self)
-        ensures { self.new ≡ passed self.old }
+        ensures { self.new ≡ ahead_after self.old }
     {
         self.token = next_token(&mut self.scanner);
     }
@@ -141,7 +141,7 @@ impl<'a> Words<'a> {
     /// Passes the keyword.
     #[tactic(auto, unfolding(mdl_parse::specs::Steps::leaf_at))]
     pub(crate) fn keyword(&mut self, text: &[u8]) -> Result<(), Stop>
-        ensures read { Gives result self.new.words_ahead (keyword_at text.now self.old.words_ahead) }
+        ensures read { IsAheadRead result self.new.words_ahead (keyword_at text.now self.old.words_ahead) }
         ensures ending { self.new.ending ≡ self.old.ending }
     {
         if !self.is_keyword(text) {
@@ -154,7 +154,7 @@ impl<'a> Words<'a> {
     /// Passes the keyword with which a directive begins, and gives its line.
     #[tactic(auto, unfolding(mdl_parse::specs::Readers::start_at))]
     pub(crate) fn start(&mut self, text: &[u8]) -> Result<u32, Stop>
-        ensures read { Gives result self.new.words_ahead (start_at text.now self.old.words_ahead) }
+        ensures read { IsAheadRead result self.new.words_ahead (start_at text.now self.old.words_ahead) }
         ensures ending { self.new.ending ≡ self.old.ending }
     {
         let line = self.line();
@@ -165,7 +165,7 @@ impl<'a> Words<'a> {
     /// Passes a semicolon.
     #[tactic(auto, unfolding(mdl_parse::specs::Steps::leaf_at))]
     pub(crate) fn semicolon(&mut self) -> Result<(), Stop>
-        ensures read { Gives result self.new.words_ahead (sign_at Semicolon self.old.words_ahead) }
+        ensures read { IsAheadRead result self.new.words_ahead (sign_at Semicolon self.old.words_ahead) }
         ensures ending { self.new.ending ≡ self.old.ending }
     {
         if !self.is_semicolon() {
@@ -178,7 +178,7 @@ impl<'a> Words<'a> {
     /// Passes a name.
     #[tactic(auto, unfolding(mdl_parse::specs::Steps::leaf_at))]
     pub(crate) fn name(&mut self, alloc: Global) -> Result<Text, Stop>
-        ensures read { Gives result self.new.words_ahead (name_at self.old.words_ahead) }
+        ensures read { IsAheadRead result self.new.words_ahead (name_at self.old.words_ahead) }
         ensures ending { self.new.ending ≡ self.old.ending }
     {
         let Some(name) = self.name_in_view() else {
@@ -192,7 +192,7 @@ impl<'a> Words<'a> {
     /// Passes a number.
     #[tactic(auto, unfolding(mdl_parse::specs::Steps::leaf_at))]
     pub(crate) fn number(&mut self) -> Result<u32, Stop>
-        ensures read { Gives result self.new.words_ahead (number_at self.old.words_ahead) }
+        ensures read { IsAheadRead result self.new.words_ahead (number_at self.old.words_ahead) }
         ensures ending { self.new.ending ≡ self.old.ending }
     {
         let Some(number) = self.number_in_view() else {

@@ -17,7 +17,7 @@ use Rattle.elf_form.specs.Texts.{text_range, text_fault, range_fault, is_entry}
 use Rattle.elf_form.specs.Symbols.{symbols_of}
 use Rattle.elf_form.specs.Meaning.{Tables, tables_of, fault_with, image_with, unless_fault, meaning_with, meaning_of, segments_of, start_of, length_of}
 use Rattle.outside.specs.Outside.{IsBytes}
-use Rattle.elf_form.specs.Accepted.{IsAccepted, IsNamed}
+use Rattle.elf_form.specs.Accepted.{IsAcceptedImage, IsNamed}
 use Rattle.elf_form.specs.declared.fault.ElfFault.{ElfFault}
 use Rattle.elf_form.specs.declared.fault.ElfFault.TheVariants.{TooBig}
 use Rattle.elf_form.specs.declared.load.Load.{Load}
@@ -63,7 +63,7 @@ ranged b t (Some r) h = (r, refl)
 entry_whole : (entry : ℕ) (r : TextRange) → is_entry entry r ≡ true → entry % 4 ≡ 0
 entry_whole entry r h = grind (arith, common_steps)
 
-accepted_with : (b : List ℕ) (t : Tables) (r : TextRange) → IsBytes b → length (symbols_of b t.sections) < 2 ^ 32 → AllByRecursion HasMemory t.loads → segments_fault (length b) t.loads ≡ None → text_range t.sections ≡ Some r → range_fault b t.loads t.sections t.entry (Some r) ≡ None → IsAccepted (record { segments = segments_of b t.loads; text_at = r.at; text_len = r.end - r.at; entry = t.entry; symbols = symbols_of b t.sections })
+accepted_with : (b : List ℕ) (t : Tables) (r : TextRange) → IsBytes b → length (symbols_of b t.sections) < 2 ^ 32 → AllByRecursion HasMemory t.loads → segments_fault (length b) t.loads ≡ None → text_range t.sections ≡ Some r → range_fault b t.loads t.sections t.entry (Some r) ≡ None → IsAcceptedImage (record { segments = segments_of b t.loads; text_at = r.at; text_len = r.end - r.at; entry = t.entry; symbols = symbols_of b t.sections })
 unfolding segments_of
 accepted_with b t r bytes few memory segments range text =
     let ls = loads_found (length b) t.loads memory segments in
@@ -92,7 +92,7 @@ accepted_with b t r bytes few memory segments range text =
       ordered = symbols.ordered;
     }
 
-pub accepted : (b : List ℕ) (i : Image) → IsBytes b → meaning_of b ≡ Ok i → length i.symbols < 2 ^ 32 → IsAccepted i
+pub accepted : (b : List ℕ) (i : Image) → IsBytes b → meaning_of b ≡ Ok i → length i.symbols < 2 ^ 32 → IsAcceptedImage i
 unfolding meaning_of meaning_with text_fault
 accepted b i bytes h few =
     let t = tables_of b in
@@ -104,12 +104,12 @@ accepted b i bytes h few =
     let text = sym (ap (λ o. range_fault b t.loads t.sections t.entry o) r.1) ∙ x.0 in
     let same = ap (λ o. record { segments = segments_of b t.loads; text_at = start_of o; text_len = length_of o; entry = t.entry; symbols = symbols_of b t.sections }) (sym r.1) ∙ m.1 in
     let symbols : length (symbols_of b t.sections) < 2 ^ 32 = subst (λ (image : Image). length image.symbols < 2 ^ 32) (sym m.1) few in
-    subst IsAccepted same (accepted_with b t r.0 bytes symbols (have_memory 0 (program_headers_of b (header_of b))) s.0 r.1 text)
+    subst IsAcceptedImage same (accepted_with b t r.0 bytes symbols (have_memory 0 (program_headers_of b (header_of b))) s.0 r.1 text)
 
 good_modules_of : (ss : List Symbol) → AllByRecursion IsNamed ss → AllByRecursion (λ s. is_good_name s.«module» ≡ true) ss
 good_modules_of [] all = tt
 good_modules_of (s ∷ ss) all = (all.0.source, good_modules_of ss all.1)
 
 -- the modules of all symbols are good names
-pub good_modules : (i : Image) → IsAccepted i → All (λ s. is_good_name s.«module» ≡ true) i.symbols
+pub good_modules : (i : Image) → IsAcceptedImage i → All (λ s. is_good_name s.«module» ≡ true) i.symbols
 good_modules i h = All-from_recursion (λ s. is_good_name s.«module» ≡ true) i.symbols (good_modules_of i.symbols h.named)

@@ -17,7 +17,7 @@ pub record IsNamed (s : Symbol) : Type 0 where
   pub size : s.size < 2 ^ 64
 
 -- an image whose text doesn't name x31, with the entry in its text; its symbols are named, those of `program` last
-pub record IsAccepted (i : Image) : Type 0 where
+pub record IsAcceptedImage (i : Image) : Type 0 where
   pub image : IsImage i
   pub unscratched : scratch_in (words_of (text_of i)) i.text_at ≡ None
   pub entry : is_entry i.entry (record { at = i.text_at; end = i.text_at + i.text_len }) ≡ true

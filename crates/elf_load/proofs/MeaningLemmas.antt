@@ -11,7 +11,7 @@ use Rattle.elf_form.specs.Meaning.{meaning_of, meaning_with, Tables, tables_of, 
 use Rattle.elf_form.specs.declared.fault.ElfFault.{ElfFault}
 use Rattle.elf_form.specs.declared.fault.ElfError.{ElfError}
 use Rattle.elf_form.specs.declared.fault.ElfError.TheVariants.{Fault, NoMemory}
-use Rattle.elf_load.specs.Means.{Means, Refuses}
+use Rattle.elf_load.specs.Means.{Means, ElfRefuses}
 use Rattle.elf_form.specs.declared.section.SectionHeader.{SectionHeader}
 use Rattle.elf_form.specs.declared.section.TextRange.{TextRange}
 use Rattle.elf_form.specs.declared.header.Header.{Header}
@@ -22,12 +22,12 @@ use Rattle.pn_types.specs.declared.image.Symbol.{Symbol}
 use Rattle.elf_form.proofs.FaultLemmas.{behind}
 
 -- a refusal that is passed on
-pub passed : (meaning : Result Image ElfFault) (result : Result Image ElfError) (error : ElfError) → IsErrAnd result (λ e. e ≡ error) → Refuses error (λ fault. meaning ≡ Err fault) → Means result meaning
+pub passed : (meaning : Result Image ElfFault) (result : Result Image ElfError) (error : ElfError) → IsErrAnd result (λ e. e ≡ error) → ElfRefuses error (λ fault. meaning ≡ Err fault) → Means result meaning
 passed meaning (Ok image) error is m = absurd is
-passed meaning (Err e) error is m = subst (λ e. Refuses e (λ fault. meaning ≡ Err fault)) (sym is) m
+passed meaning (Err e) error is m = subst (λ e. ElfRefuses e (λ fault. meaning ≡ Err fault)) (sym is) m
 
 -- a refusal says as much as its reason
-pub refuses_more : {why also : ElfFault → Type 0} (error : ElfError) → ((fault : ElfFault) → why fault → also fault) → Refuses error why → Refuses error also
+pub refuses_more : {why also : ElfFault → Type 0} (error : ElfError) → ((fault : ElfFault) → why fault → also fault) → ElfRefuses error why → ElfRefuses error also
 refuses_more (Fault fault) more refused = more fault refused
 refuses_more NoMemory more refused = tt
 

@@ -4,7 +4,7 @@ ghost use Rattle.std.specs.Prelude.{◌≡◌, ◌≤◌, ◌<◌, ◌^◌, leng
 ghost use Rattle.std.specs.List.{All};
 ghost use Rattle.pn_types.specs.GoodNames.{is_good_name};
 ghost use Rattle.elf_form.specs.Meaning.{meaning_of};
-ghost use Rattle.elf_form.specs.Accepted.{IsAccepted, names_len};
+ghost use Rattle.elf_form.specs.Accepted.{IsAcceptedImage, names_len};
 ghost use Rattle.elf_form.specs.Headers.{header_fault};
 ghost use Rattle.elf_load.specs.Checks.{MeansWith};
 ghost use Rattle.elf_load.specs.Means.{Means};
@@ -51,7 +51,7 @@ fn image_of(
 /// more than [`MAX_NAMES_LEN`] bytes together, or its symbol table has 2^32 entries or more.
 pub fn load(alloc: Global, bytes: &[u8]) -> Result<Image, ElfError>
     ensures meaning { Means result (meaning_of bytes.now) }
-    ensures accepted { IfOk result IsAccepted }
+    ensures accepted { IfOk result IsAcceptedImage }
     ensures modules { IfOk result (λ image. All (λ s. is_good_name s.«module» ≡ true) image.symbols) }
     ensures named { IfOk result (λ image. names_len image.symbols ≤ MAX_NAMES_LEN) }
 {

@@ -5,7 +5,7 @@ ghost use Rattle.std.specs.List.{All};
 ghost use Rattle.elf_form.specs.Segments.{loads_from, load_faults, shared_with, lowest_shared, lower, total_size, segments_fault, segment_of, with_load, by_address};
 ghost use Rattle.elf_form.specs.Faults.{first_fault};
 ghost use Rattle.elf_form.specs.Meaning.{segments_of};
-ghost use Rattle.elf_load.specs.Placed.{IsPlaced};
+ghost use Rattle.elf_load.specs.Placed.{IsSegmentPlaced};
 ghost use Rattle.elf_load.specs.Checks.{Checks};
 
 use crate::tables::part;
@@ -37,7 +37,7 @@ pub fn loads_of(alloc: Global, headers: &[ProgramHeader]) -> Result<Vec<Load>, N
 /// The first fault of a single segment, in a file of `len` bytes.
 fn first_load_fault(loads: &[Load], len: u64) -> Option<ElfFault>
     ensures fault { result ≡ first_fault (load_faults len 0 loads.now) }
-    ensures placed { IfNone result (All (IsPlaced len) loads.now) }
+    ensures placed { IfNone result (All (IsSegmentPlaced len) loads.now) }
     ensures few { IfNone result (length loads.now ≤ 16) }
 {
     for (place, load) in loads.iter().enumerate() {
@@ -62,8 +62,8 @@ fn lower(a: Option<u64>, b: Option<u64>) -> Option<u64>
 
 /// The lowest address that a segment shares with one of the others.
 fn shared_with(len: u64, load: &Load, others: &[Load]) -> Option<u64>
-    requires load { IsPlaced len load.now }
-    requires others { All (IsPlaced len) others.now }
+    requires load { IsSegmentPlaced len load.now }
+    requires others { All (IsSegmentPlaced len) others.now }
     ensures { result ≡ shared_with load.now others.now }
 {
     let mut lowest = None;
@@ -75,7 +75,7 @@ fn shared_with(len: u64, load: &Load, others: &[Load]) -> Option<u64>
 
 /// The lowest address that is in two segments.
 fn lowest_shared(len: u64, loads: &[Load]) -> Option<u64>
-    requires { All (IsPlaced len) loads.now }
+    requires { All (IsSegmentPlaced len) loads.now }
     ensures { result ≡ lowest_shared loads.now }
 {
     let mut lowest = None;
@@ -87,7 +87,7 @@ fn lowest_shared(len: u64, loads: &[Load]) -> Option<u64>
 
 /// The bytes of all segments' memory together.
 fn total_size(len: u64, loads: &[Load]) -> u64
-    requires placed { All (IsPlaced len) loads.now }
+    requires placed { All (IsSegmentPlaced len) loads.now }
     requires few { length loads.now ≤ 16 }
     ensures { result ≡ total_size loads.now }
 {
@@ -106,7 +106,7 @@ fn total_size(len: u64, loads: &[Load]) -> u64
 #[tactic(auto, unfolding(elf_form::specs::Segments::segments_fault))]
 pub fn check_segments(loads: &[Load], len: u64) -> Result<(), ElfFault>
     ensures fault { Checks result (segments_fault len loads.now) }
-    ensures placed { OnOk result (All (IsPlaced len) loads.now) }
+    ensures placed { OnOk result (All (IsSegmentPlaced len) loads.now) }
 {
     if let Some(fault) = first_load_fault(loads, len) {
         return Err(fault);

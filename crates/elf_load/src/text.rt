@@ -4,7 +4,7 @@ ghost use Rattle.std.specs.Prelude.{◌≡◌, ◌-◌, ◌<◌, ◌^◌, true, 
 ghost use Rattle.std.specs.List.{All, list_any};
 ghost use Rattle.elf_form.specs.Segments.{is_around};
 ghost use Rattle.elf_form.specs.Texts.{intrudes, text_range, segment_around, is_two_texts, range_bytes, range_fault, text_fault, is_entry};
-ghost use Rattle.elf_load.specs.Placed.{IsPlaced};
+ghost use Rattle.elf_load.specs.Placed.{IsSegmentPlaced};
 ghost use Rattle.elf_load.specs.Checks.{Checks};
 
 use crate::tables::part;
@@ -29,9 +29,9 @@ fn text_range(sections: &[SectionHeader]) -> Option<TextRange>
 /// The segment whose file part has the range.
 #[tactic(auto, unfolding(elf_form::specs::Texts::segment_around))]
 fn segment_around(len: u64, loads: &[Load], range: &TextRange) -> Option<Load>
-    requires { All (IsPlaced len) loads.now }
+    requires { All (IsSegmentPlaced len) loads.now }
     ensures segment { result ≡ segment_around loads.now range.now }
-    ensures placed { IfSome result (IsPlaced len) }
+    ensures placed { IfSome result (IsSegmentPlaced len) }
     ensures around { IfSome result (λ load. is_around load range.now ≡ true) }
 {
     for load in loads {
@@ -57,11 +57,11 @@ fn segment_of_text(
     sections: &[SectionHeader],
     range: &TextRange,
 ) -> Option<Load>
-    requires { All (IsPlaced len) loads.now }
+    requires { All (IsSegmentPlaced len) loads.now }
     ensures none { IfNone result (is_two_texts loads.now sections.now range.now ≡ true) }
     ensures one { IfSome result (λ load. is_two_texts loads.now sections.now range.now ≡ false) }
     ensures segment { IfSome result (λ load. segment_around loads.now range.now ≡ Some load) }
-    ensures placed { IfSome result (IsPlaced len) }
+    ensures placed { IfSome result (IsSegmentPlaced len) }
     ensures around { IfSome result (λ load. is_around load range.now ≡ true) }
 {
     let load = segment_around(len, loads, range)?;
@@ -73,7 +73,7 @@ fn segment_of_text(
 
 /// The bytes of the text, which lies in the file part of a segment.
 fn text_bytes<'a>(bytes: &'a [u8], load: &Load, range: &TextRange) -> &'a [u8]
-    requires placed { IsPlaced (length bytes.now) load.now }
+    requires placed { IsSegmentPlaced (length bytes.now) load.now }
     requires around { is_around load.now range.now ≡ true }
     requires positive { range.now.at < range.now.end }
     ensures bytes { result.now ≡ range_bytes bytes.now range.now (Some load.now) }
@@ -99,7 +99,7 @@ fn range_fault(
     range: &TextRange,
 ) -> Option<ElfFault>
     requires positive { range.now.at < range.now.end }
-    requires placed { All (IsPlaced (length bytes.now)) loads.now }
+    requires placed { All (IsSegmentPlaced (length bytes.now)) loads.now }
     ensures fault { result ≡ range_fault bytes.now loads.now sections.now entry (Some range.now) }
     ensures below { IfNone result (range.now.end < 2 ^ 64) }
 {
@@ -138,7 +138,7 @@ pub fn checked_text(
     sections: &[SectionHeader],
     entry: u64,
 ) -> Result<TextRange, ElfFault>
-    requires { All (IsPlaced (length bytes.now)) loads.now }
+    requires { All (IsSegmentPlaced (length bytes.now)) loads.now }
     ensures fault { Checks result (text_fault bytes.now loads.now sections.now entry) }
     ensures range { IfOk result (λ range. text_range sections.now ≡ Some range) }
     ensures positive { IfOk result (λ range. range.at < range.end) }

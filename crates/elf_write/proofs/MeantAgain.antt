@@ -1,7 +1,7 @@
 -- What is written of a text's image means it again.
 use Rattle.std.proofs.Common.{◌≡◌, ℕ, ◌<◌, ◌^◌, Ok, List, [], ◌∷◌, length, subst}
 use Rattle.std.specs.List.{AllByRecursion}
-use Rattle.elf_form.specs.Accepted.{IsAccepted, IsNamed}
+use Rattle.elf_form.specs.Accepted.{IsAcceptedImage, IsNamed}
 use Rattle.elf_form.specs.Symbols.{with_program_last}
 use Rattle.elf_form.proofs.FoundSymbols.{last_named, last_again}
 use Rattle.pn_types.specs.declared.image.Image.{Image}
@@ -22,7 +22,7 @@ put_named : (ss : List Symbol) → ArePut ss → Named ss
 put_named ss put = subst Named put.put (record { named = last_named put.declared (are_named put.declared put.whole); ordered = last_again put.declared })
 
 -- the image of a text whose entry is a word of its text is one that an ELF file can have
-pub assembled_accepted : (text : List ℕ) (image : Image) → assembled text ≡ Ok image → length text < 2 ^ 31 → IsEntered image → IsAccepted image
+pub assembled_accepted : (text : List ℕ) (image : Image) → assembled text ≡ Ok image → length text < 2 ^ 31 → IsEntered image → IsAcceptedImage image
 assembled_accepted text image e short entry =
     let is = assembled_is text image e in
     let symbols = put_named image.symbols is.symbols in

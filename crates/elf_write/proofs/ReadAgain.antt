@@ -12,7 +12,7 @@ use Rattle.elf_form.specs.Texts.{text_range, text_fault}
 use Rattle.elf_form.specs.Symbols.{symbols_fault, symbols_of, table_fault, section_bytes, is_short, entries_of as entries_read_of, is_ended, symbols_from, with_program_last}
 use Rattle.elf_form.specs.Meaning.{Tables, tables_of, fault_with, image_with, unless_fault, meaning_with, meaning_of, start_of, length_of}
 use Rattle.outside.specs.Outside.{IsBytes}
-use Rattle.elf_form.specs.Accepted.{IsAccepted}
+use Rattle.elf_form.specs.Accepted.{IsAcceptedImage}
 use Rattle.elf_form.proofs.AcceptedImages.{accepted}
 use Rattle.pn_types.specs.GoodNames.{program_module}
 use Rattle.pn_types.specs.Images.{IsSegment}
@@ -52,7 +52,7 @@ or_true : (b : Bool) → (b || true) ≡ true
 or_true true = refl
 or_true false = refl
 
-module _ (i : Image) (acc : IsAccepted i) (named : CanWrite i) where
+module _ (i : Image) (acc : IsAcceptedImage i) (named : CanWrite i) where
   f : List ℕ
   f = elf_bytes i
 
@@ -200,5 +200,5 @@ module _ (i : Image) (acc : IsAccepted i) (named : CanWrite i) where
   read_again = ap (λ u. unless_fault (fault_with (elf_bytes i) u) (image_with (elf_bytes i) u)) tables ∙ ap (λ o. unless_fault o (image_with (elf_bytes i) t)) no_fault ∙ ap Ok same_image
 
 -- the image of a file, if it can be written
-pub file_accepted : (file : List ℕ) (i : Image) → IsBytes file → meaning_of file ≡ Ok i → CanWrite i → IsAccepted i
+pub file_accepted : (file : List ℕ) (i : Image) → IsBytes file → meaning_of file ≡ Ok i → CanWrite i → IsAcceptedImage i
 file_accepted file i bytes meant can = accepted file i bytes meant (few_named i can)

@@ -7,13 +7,13 @@ use Rattle.rv_asm.specs.Assembly.{assembled}
 use Rattle.elf_write.specs.Layout.{elf_bytes}
 use Rattle.pn_types.specs.declared.image.Image.{Image}
 
-abbrev pub written : Result Image AsmFault → Result (List ℕ) AsmFault
-written (Ok image) = Ok (elf_bytes image)
-written (Err fault) = Err fault
+abbrev pub file_or_fault : Result Image AsmFault → Result (List ℕ) AsmFault
+file_or_fault (Ok image) = Ok (elf_bytes image)
+file_or_fault (Err fault) = Err fault
 
 -- the file of the program that a text stands for, or why it stands for none
 abbrev pub elf_of : List ℕ → Result (List ℕ) AsmFault
-elf_of text = written (assembled text)
+elf_of text = file_or_fault (assembled text)
 
 -- the entry of an image is the address of a word of its text; a label `_start` after the last word isn't
 abbrev pub IsEntered : Image → Type 0

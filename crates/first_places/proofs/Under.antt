@@ -7,7 +7,7 @@ use Rattle.std.specs.Option.{option_map_or}
 use Rattle.std.proofs.lemmas.Map.{keys-set_value}
 use Rattle.first_places.specs.Entries.{noted}
 use Rattle.first_places.proofs.Pushed.{last_entry}
-use Rattle.first_places.specs.Numbers.{with_number, names_of, numbers_under, IsAdded, IsKept}
+use Rattle.first_places.specs.Numbers.{with_number, names_of, numbers_under, IsAdded, IsUnchanged}
 
 module _ {K V : Type 0} (now : K → List ℕ) (items : V → List ℕ) where
   -- a name has an entry where it is among the names
@@ -73,7 +73,7 @@ module _ {K V : Type 0} (now : K → List ℕ) (items : V → List ℕ) where
         by other false e = refl
 
     -- the numbers of a name that stay
-    pub kept_here : items w ≡ items v → IsKept now items es (set_value (λ key. bytes_eq name (now key)) es w)
+    pub kept_here : items w ≡ items v → IsUnchanged now items es (set_value (λ key. bytes_eq name (now key)) es w)
     kept_here same = record { names = names_stay; numbers = λ other. written name v w es found other ∙ by other (bytes_eq other name) refl }
       where
         by : (other : List ℕ) (b : Bool) → bytes_eq other name ≡ b → cond b (items w) (numbers_under now items other es) ≡ numbers_under now items other es

@@ -28,6 +28,6 @@ pub record IsAdded {K V : Type 0} (now : K → List ℕ) (items : V → List ℕ
       → numbers_under now items other new ≡ with_number (bytes_eq other name) n (numbers_under now items other old)
 
 -- nothing is changed
-pub record IsKept {K V : Type 0} (now : K → List ℕ) (items : V → List ℕ) (old new : List (K × V)) : Type 0 where
+pub record IsUnchanged {K V : Type 0} (now : K → List ℕ) (items : V → List ℕ) (old new : List (K × V)) : Type 0 where
   pub names : names_of now new ≡ names_of now old
   pub numbers : (other : List ℕ) → numbers_under now items other new ≡ numbers_under now items other old

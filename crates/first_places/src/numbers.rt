@@ -1,7 +1,7 @@
 //! Numbers by name.
 
 ghost use Rattle.std.specs.Prelude.{OnOk, OnErr};
-ghost use Rattle.first_places.specs.Numbers.{IsAdded, IsKept};
+ghost use Rattle.first_places.specs.Numbers.{IsAdded, IsUnchanged};
 
 use indexmap::IndexMap;
 use pn_types::NoMemory;
@@ -19,7 +19,7 @@ pub fn add_number(
     number: u32,
 ) -> Result<(), NoMemory>
     ensures added { OnOk result (IsAdded (λ key. key.items) (λ own. own.items) name.now number numbers.old.entries numbers.new.entries) }
-    ensures err { OnErr result (IsKept (λ key. key.items) (λ own. own.items) numbers.old.entries numbers.new.entries) }
+    ensures err { OnErr result (IsUnchanged (λ key. key.items) (λ own. own.items) numbers.old.entries numbers.new.entries) }
 {
     if let Some(own) = numbers.get_mut(name) {
         own.push(number)?;

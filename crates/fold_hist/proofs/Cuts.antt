@@ -5,7 +5,7 @@ use Rattle.std.proofs.lemmas.List.Sums.{sum_by-append}
 use Rattle.std.proofs.Math.Nat.{add-mod-mod, mod-add-mod, mod-eq_of_lt, add-mod_right}
 use Rattle.fold_hist.specs.declared.bin.Bin.{Bin}
 use Rattle.fold_hist.specs.Bins.{bin_of, last_to, pieces}
-use Rattle.fold_hist.specs.Steps.{joined, paired, with_last}
+use Rattle.fold_hist.specs.Steps.{bins_joined, paired, with_last}
 
 abbrev pub IsCut : ℕ → List (List Bin) → List Bin → Type 0
 IsCut w [] xs = xs ≡ []
@@ -117,7 +117,7 @@ last-append (x ∷ x' ∷ xs) y ys = last-append (x' ∷ xs) y ys
 sum-both : (a b : ℕ) → (a + b) % 2 ^ 64 ≡ (a % 2 ^ 64 + b % 2 ^ 64) % 2 ^ 64
 sum-both a b = sym (mod-add-mod a (2 ^ 64) (b % 2 ^ 64) ∙ add-mod-mod a b (2 ^ 64))
 
-pub bin_both : (g h : List Bin) → 0 < length g → 0 < length h → bin_of (g ++ h) ≡ joined (bin_of g) (bin_of h)
+pub bin_both : (g h : List Bin) → 0 < length g → 0 < length h → bin_of (g ++ h) ≡ bins_joined (bin_of g) (bin_of h)
 bin_both [] h p q = absurd (omega arith)
 bin_both (x ∷ g) [] p q = absurd (omega arith)
 bin_both (x ∷ g) (y ∷ h) p q =
@@ -135,7 +135,7 @@ bins_paired (g ∷ []) w xs p e = refl
 bins_paired (g ∷ h ∷ gs) w xs p e =
     let lg : 0 < length g = subst (λ (k : List Bin). 0 < length k) (sym e.1) (long w xs p e.0) in
     let lh : 0 < length h = subst (λ (k : List Bin). 0 < length k) (sym e.2.1) (long w (drop w xs) p e.2.0) in
-    let a : bin_of (g ++ h) ≡ joined (bin_of g) (bin_of h) = bin_both g h lg lh in
+    let a : bin_of (g ++ h) ≡ bins_joined (bin_of g) (bin_of h) = bin_both g h lg lh in
     let b : map bin_of (two_by_two gs) ≡ paired (map bin_of gs) = bins_paired gs w (drop w (drop w xs)) p e.2.2 in
     cc
 

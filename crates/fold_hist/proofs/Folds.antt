@@ -2,7 +2,7 @@
 use Rattle.std.proofs.Common.{◌≡◌, ℕ, zero, suc, ◌+◌, ◌*◌, ◌<◌, List, [], ◌∷◌, ◌++◌, length, take, drop, get_or, set, refl, sym, ap, ◌∙◌, arith, append_assoc}
 use Rattle.std.proofs.lemmas.List.{take_more_set, drop-set-lt}
 use Rattle.fold_hist.specs.declared.bin.Bin.{Bin}
-use Rattle.fold_hist.specs.Steps.{joined, paired, with_last}
+use Rattle.fold_hist.specs.Steps.{bins_joined, paired, with_last}
 
 -- one pair more
 pub fold_step : (bs : List Bin) (i : ℕ) (x : Bin) → 2 * i < length bs → paired (drop (2 * i) bs) ≡ x ∷ paired (drop (2 * (i + 1)) bs)
@@ -13,7 +13,7 @@ fold_step bs i x h e =
     ∙ append_assoc (take i bs) (x ∷ []) (paired (drop (2 * (i + 1)) bs))
     ∙ ap (λ (l : List Bin). take i bs ++ l) (sym e)
 
-pub set_last : (bs : List Bin) (i : ℕ) (d s : Bin) → suc i ≡ length bs → set bs i (joined (get_or bs i d) s) ≡ with_last bs s
+pub set_last : (bs : List Bin) (i : ℕ) (d s : Bin) → suc i ≡ length bs → set bs i (bins_joined (get_or bs i d) s) ≡ with_last bs s
 set_last [] i d s e = absurd (omega arith)
 set_last (a ∷ []) zero d s e = refl
 set_last (a ∷ []) (suc i) d s e = absurd (omega arith)

@@ -5,19 +5,19 @@ use Rattle.fold_hist.specs.declared.bin.Bin.{Bin}
 use Rattle.fold_hist.specs.Bins.{Histogram}
 
 -- two bins as one
-abbrev pub joined : Bin → Bin → Bin
-joined a b = record { from = a.from; to = b.to; sum = (a.sum + b.sum) % 2 ^ 64 }
+abbrev pub bins_joined : Bin → Bin → Bin
+bins_joined a b = record { from = a.from; to = b.to; sum = (a.sum + b.sum) % 2 ^ 64 }
 
 -- each two as one; the last of an odd number stays
 abbrev pub paired : List Bin → List Bin
 paired [] = []
 paired (a ∷ []) = a ∷ []
-paired (a ∷ b ∷ rest) = joined a b ∷ paired rest
+paired (a ∷ b ∷ rest) = bins_joined a b ∷ paired rest
 
 -- the last bin with another one after it
 abbrev pub with_last : List Bin → Bin → List Bin
 with_last [] b = []
-with_last (a ∷ []) b = joined a b ∷ []
+with_last (a ∷ []) b = bins_joined a b ∷ []
 with_last (a ∷ a' ∷ rest) b = a ∷ with_last (a' ∷ rest) b
 
 -- every bin is full, and there is none more

@@ -1,7 +1,7 @@
 //! One bin of a histogram.
 
 ghost use Rattle.std.specs.Prelude.{◌≡◌};
-ghost use Rattle.fold_hist.specs.Steps.{joined};
+ghost use Rattle.fold_hist.specs.Steps.{bins_joined};
 
 /// The sum of samples that follow each other, from the beginning of the first to the end of the last. A sample is a bin of
 /// one.
@@ -18,7 +18,7 @@ pub struct Bin {
 impl Bin {
     /// This bin and the one after it as one.
     pub(crate) fn joined(self, next: Bin) -> Bin
-        ensures { result ≡ joined self next }
+        ensures { result ≡ bins_joined self next }
     {
         Bin {
             from: self.from,

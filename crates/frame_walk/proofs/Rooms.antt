@@ -9,12 +9,12 @@ use Rattle.pn_types.specs.declared.plan.Stmt.{Stmt}
 use Rattle.pn_types.specs.declared.plan.Var.{Var}
 use Rattle.rv_word.specs.Memory.{Memory}
 use Rattle.tramp_spec.specs.Slots.{initials}
-use Rattle.tramp_spec.specs.Values.{acted, all_hold, values_behind, values_after}
+use Rattle.tramp_spec.specs.Values.{values_after_act, all_hold, values_behind, values_after}
 use Rattle.pn_types.specs.declared.plan.Open.{Open}
 use Rattle.frame_walk.specs.declared.walk_start.WalkStart.{WalkStart}
 use Rattle.frame_walk.specs.Frames.{calls}
 use Rattle.frame_walk.specs.Walks.{walk_of, walk_from}
-use Rattle.frame_walk.specs.Openings.{holds, open_at, stmts_where, of_pc, of_caller, of_calls, entered}
+use Rattle.frame_walk.specs.Openings.{holds, open_at, stmts_where, of_pc, of_caller, of_calls, entry_statements}
 use Rattle.frame_walk.specs.Rooms.{IsNarrow, IsSmall, HasRoom}
 use Rattle.frame_walk.specs.Laws.{OpensLow}
 use Rattle.frame_walk.proofs.Lengths.{few_calls}
@@ -35,14 +35,14 @@ set_room (y ∷ values) (suc v) x n h l = (h.0, set_room values v x n h.1 l)
 
 -- ---- statements
 
-acted_length : (a : Act) (values : List ℕ) → length (acted a values) ≡ length values
+acted_length : (a : Act) (values : List ℕ) → length (values_after_act a values) ≡ length values
 acted_length (Up v) values = length-set values v _
 acted_length (Down v) values = length-set values v _
 acted_length (Put v n) values = length-set values v _
 acted_length (Start v) values = length-set values v _
 acted_length (Stop v) values = length-set values v _
 
-acted_room : (a : Act) (values : List ℕ) (n : ℕ) → IsNarrow a → n + 2 ^ 32 < 2 ^ 63 → HasRoom (n + 1) values → HasRoom n (acted a values)
+acted_room : (a : Act) (values : List ℕ) (n : ℕ) → IsNarrow a → n + 2 ^ 32 < 2 ^ 63 → HasRoom (n + 1) values → HasRoom n (values_after_act a values)
 acted_room (Up v) values n s l h = let q = room_at (n + 1) values v (omega arith) h in set_room values v _ n (less_room n (n + 1) values (omega arith) h) (omega arith)
 acted_room (Down v) values n s l h = let q = room_at (n + 1) values v (omega arith) h in set_room values v _ n (less_room n (n + 1) values (omega arith) h) (omega arith)
 acted_room (Put v x) values n s l h = set_room values v _ n (less_room n (n + 1) values (omega arith) h) (omega arith)
@@ -52,14 +52,14 @@ acted_room (Stop v) values n s l h = let q = room_at (n + 1) values v (omega ari
 pub behind_length : (s : Stmt) (args values : List ℕ) → length (values_behind s args values) ≡ length values
 behind_length s args values = by (all_hold s.conds args values)
   where
-    by : (b : Bool) → length (if b then acted s.act values else values) ≡ length values
+    by : (b : Bool) → length (if b then values_after_act s.act values else values) ≡ length values
     by true = acted_length s.act values
     by false = refl
 
 pub behind_room : (s : Stmt) (args values : List ℕ) (n : ℕ) → IsNarrow s.act → n + 2 ^ 32 < 2 ^ 63 → HasRoom (n + 1) values → HasRoom n (values_behind s args values)
 behind_room s args values n small l h = by (all_hold s.conds args values)
   where
-    by : (b : Bool) → HasRoom n (if b then acted s.act values else values)
+    by : (b : Bool) → HasRoom n (if b then values_after_act s.act values else values)
     by true = acted_room s.act values n small l h
     by false = less_room n (n + 1) values (omega arith) h
 
@@ -127,7 +127,7 @@ few_called n opens m fp a =
     let f = few_of_calls opens (calls n m fp) a in
     record { len = let l = f.len in let s = few_calls n m fp in omega arith; narrow = f.narrow }
 
-few_entered : (opens : List Open) (m : Memory) (start : Option WalkStart) → AllByRecursion IsSmall opens → Few (32 * 66) (entered opens (walk_from m start))
+few_entered : (opens : List Open) (m : Memory) (start : Option WalkStart) → AllByRecursion IsSmall opens → Few (32 * 66) (entry_statements opens (walk_from m start))
 few_entered opens m None a = few_none (32 * 66)
 few_entered opens m (Some start) a =
     let w = walk_of m start in
@@ -154,7 +154,7 @@ room_below n (v ∷ values) l a = let e = a.0 in (omega arith, room_below n valu
 
 pub opens_low : OpensLow
 opens_low opens m start vars small low =
-    let ss = entered opens (walk_from m start) in
+    let ss = entry_statements opens (walk_from m start) in
     let f = few_entered opens m start small in
     let r : AllByRecursion (λ v. v < 2 ^ 33) (values_after ss [] (initials vars)) = with_room (values_after ss [] (initials vars))
     (few_room (32 * 66) (2 ^ 63 - 2 ^ 33) ss (initials vars) f (omega arith) (initial_room vars (2 ^ 63 - 2 ^ 33 + 32 * 66) (omega arith) low)) in

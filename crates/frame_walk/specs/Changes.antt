@@ -6,9 +6,9 @@ use Rattle.tramp_spec.specs.Slots.{initials}
 use Rattle.frame_walk.specs.declared.changes.Change.{Change}
 
 -- the values after changes
-abbrev pub changed : List ℕ → List Change → List ℕ
-changed values [] = values
-changed values (c ∷ cs) = changed (slice_set values c.variable c.value) cs
+abbrev pub values_changed : List ℕ → List Change → List ℕ
+values_changed values [] = values
+values_changed values (c ∷ cs) = values_changed (slice_set values c.variable c.value) cs
 
 -- the value that a variable has after changes
 abbrev pub last_of : ℕ → ℕ → List Change → ℕ
@@ -21,10 +21,10 @@ pub record Acting : Type 0 where
   pub acts : ℕ
 
 abbrev pub acting_of : List Var → List Change → Acting
-acting_of vars cs = record { values = changed (initials vars) cs; acts = length cs }
+acting_of vars cs = record { values = values_changed (initials vars) cs; acts = length cs }
 
-abbrev pub begun : List Var → Acting
-begun vars = record { values = initials vars; acts = 0 }
+abbrev pub first_acting : List Var → Acting
+first_acting vars = record { values = initials vars; acts = 0 }
 
 -- no change of n puts a number that is far above 32 bits
 abbrev pub AreSmall : ℕ → List Change → Type 0

@@ -36,11 +36,11 @@ of_calls opens [] = []
 of_calls opens (a ∷ rest) = of_calls opens rest ++ stmts_where (λ o. true) (open_at opens a)
 
 -- the statements of all addresses of a walk that act, from the last to the first
-abbrev pub entered : List Open → Option Walk → List Stmt
-entered opens None = []
-entered opens (Some w) = of_calls opens w.calls ++ (of_caller opens w.pc w.caller ++ of_pc opens w.pc)
+abbrev pub entry_statements : List Open → Option Walk → List Stmt
+entry_statements opens None = []
+entry_statements opens (Some w) = of_calls opens w.calls ++ (of_caller opens w.pc w.caller ++ of_pc opens w.pc)
 
 -- The opening values: from each variable's `initially` on these statements act. There are no arguments, so that a statement with a
 -- condition on one doesn't act.
 abbrev pub opening : List Open → Option Walk → List Var → List ℕ
-opening opens w vars = values_after (entered opens w) [] (initials vars)
+opening opens w vars = values_after (entry_statements opens w) [] (initials vars)

@@ -1,7 +1,7 @@
 //! What statements make of values where there are no arguments.
 
 ghost use Rattle.std.specs.Prelude.{◌≡◌, ◌<◌, ◌≤◌, ◌+◌, [], length};
-ghost use Rattle.tramp_spec.specs.Values.{acted, all_hold, compares, values_after, values_behind};
+ghost use Rattle.tramp_spec.specs.Values.{values_after_act, all_hold, compares, values_after, values_behind};
 
 use crate::values::Values;
 use pn_types::{Act, Cmp, Cond, Left, Stmt};
@@ -40,7 +40,7 @@ fn all_hold(conds: &[Cond], values: &Values) -> bool
 /// Does what a statement does that acts.
 fn perform(act: Act, values: &mut Values)
     requires { values.old.acts < 2112 }
-    ensures values { values.new.values ≡ acted act values.old.values }
+    ensures values { values.new.values ≡ values_after_act act values.old.values }
     ensures acts { values.new.acts ≡ values.old.acts + 1 }
 {
     match act {

@@ -7,7 +7,7 @@ ghost use Rattle.std.specs.Option.{option_copied};
 ghost use Rattle.tramp_spec.specs.Values.{values_after};
 ghost use Rattle.frame_walk.specs.Frames.{calls};
 ghost use Rattle.frame_walk.specs.Walks.{walk_of};
-ghost use Rattle.frame_walk.specs.Openings.{entered, holds, of_caller, of_calls, of_pc, open_at, stmts_where};
+ghost use Rattle.frame_walk.specs.Openings.{entry_statements, holds, of_caller, of_calls, of_pc, open_at, stmts_where};
 ghost use Rattle.frame_walk.specs.Rooms.{IsSmall};
 
 use crate::acting::pass_all;
@@ -115,7 +115,7 @@ fn enter_calls(mem: &Mem, opens: &[Open], fp: u64, n: u32, values: &mut Values)
 pub fn enter(mem: &Mem, opens: &[Open], start: WalkStart, values: &mut Values)
     requires small { AllByRecursion IsSmall opens.now }
     requires left { values.old.acts + 32 * 66 ≤ 2112 }
-    ensures values { values.new.values ≡ values_after (entered opens.now (Some (walk_of mem.now start))) [] values.old.values }
+    ensures values { values.new.values ≡ values_after (entry_statements opens.now (Some (walk_of mem.now start))) [] values.old.values }
     ensures acts { values.new.acts ≤ values.old.acts + 32 * 66 }
 {
     enter_calls(mem, opens, start.fp, MOST_FRAMES, values);

@@ -1,7 +1,7 @@
 //! The values of a plan's variables while statements act.
 
 ghost use Rattle.std.specs.Prelude.{◌≡◌, ◌<◌, ◌+◌, ◌^◌, slice_index, slice_set};
-ghost use Rattle.frame_walk.specs.Changes.{begun, last_of};
+ghost use Rattle.frame_walk.specs.Changes.{first_acting, last_of};
 
 use crate::changes::{Change, Changes};
 use pn_types::Var;
@@ -41,7 +41,7 @@ fn last_of(changes: &[Change], variable: usize, first: u64) -> u64
 impl<'a> Values<'a> {
     /// What the variables are initially.
     pub fn new(vars: &'a [Var]) -> Values<'a>
-        ensures { result ≡ begun vars.now }
+        ensures { result ≡ first_acting vars.now }
     {
         Values {
             vars,

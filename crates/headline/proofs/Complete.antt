@@ -10,15 +10,15 @@ use Rattle.refusals.specs.declared.fault.Fault.TheVariants.{Usage, FileFault, Ba
 use Rattle.headline.specs.Answers.{status_of, texts_of}
 use Rattle.headline.specs.Delivery.{IsTorn}
 use Rattle.commands.specs.Due.{AreOne, IsDue, is_live}
-use Rattle.commands.specs.Sights.{seen, Looks}
+use Rattle.commands.specs.Sights.{file_read, Looks}
 use Rattle.refusals.specs.Refusals.{Comes}
 use Rattle.refusals.specs.declared.refusal.Refusal.{Refusal}
-use Rattle.headline.specs.Serving.{AreGained, AreTold, AreTorn, IsOwed, IsServed, IsSpared, IsUntold, OneOwed, told_of}
+use Rattle.headline.specs.Serving.{AreGained, AreFilesKnown, AreTorn, IsOwed, IsServedCall, IsUnchangedCount, IsUntold, OneOwed, told_of}
 use Rattle.commands.specs.declared.texts.Texts.{Texts}
 use Rattle.headline.proofs.Served.{owed, untold}
 
 -- a sink that was torn isn't spared
-torn_rises : {K : Type 0} (has : K → Option (List ℕ)) (count : K → ℕ) (old new : K) (bytes : List ℕ) → IsTorn has count old new bytes → IsSpared (count old) (count new) → ⊥
+torn_rises : {K : Type 0} (has : K → Option (List ℕ)) (count : K → ℕ) (old new : K) (bytes : List ℕ) → IsTorn has count old new bytes → IsUnchangedCount (count old) (count new) → ⊥
 torn_rises has count old new bytes torn spared =
     let below = spared.0 in
     let same = spared.1 in
@@ -44,11 +44,11 @@ module _ {F K L : Type 0} (holds : F → List ℕ → Holding) (faults : F → L
     pub memory : result ≡ 8 → (newK ≡ oldK) × (newL ≡ oldL) × IsUntold holds faults old new words
 
   module _ (a : IsAnswered) where
-    not_torn : (answer : Result Texts Fault) → AreTorn hasK faultsK oldK newK hasL faultsL oldL newL (texts_of answer) → IsSpared (faultsK oldK) (faultsK newK) → IsSpared (faultsL oldL) (faultsL newL) → ⊥
+    not_torn : (answer : Result Texts Fault) → AreTorn hasK faultsK oldK newK hasL faultsL oldL newL (texts_of answer) → IsUnchangedCount (faultsK oldK) (faultsK newK) → IsUnchangedCount (faultsL oldL) (faultsL newL) → ⊥
     not_torn answer (inl t) k l = torn_rises hasL faultsL oldL newL (texts_of answer).log t.1 l
     not_torn answer (inr t) k l = torn_rises hasK faultsK oldK newK (texts_of answer).out t.1 k
 
-    complete : OneOwed holds faults → AreTold holds faults old → (due : Texts) → Owed (Ok due) → IsSpared (faultsK oldK) (faultsK newK) → IsSpared (faultsL oldL) (faultsL newL) → (result ≡ 0) ⊎ (result ≡ 8)
+    complete : OneOwed holds faults → AreFilesKnown holds faults old → (due : Texts) → Owed (Ok due) → IsUnchangedCount (faultsK oldK) (faultsK newK) → IsUnchangedCount (faultsL oldL) (faultsL newL) → (result ≡ 0) ⊎ (result ≡ 8)
     complete one told due owed k l = by (cases_eq result 7) (cases_eq result 8)
       where
         by : (result ≡ 7) ⊎ (result ≡ 7 → ⊥) → (result ≡ 8) ⊎ (result ≡ 8 → ⊥) → (result ≡ 0) ⊎ (result ≡ 8)
@@ -95,14 +95,14 @@ module _ {F K L : Type 0} (holds : F → List ℕ → Holding) (faults : F → L
         by (inr other) (inr sound) = let given = a.answered other sound in absurd (risen (given.3.0).calm (given.3.1).calm)
 
     -- and so all of it
-    served : OneOwed holds faults → IsServed holds faults old new words hasK faultsK oldK newK hasL faultsL oldL newL result
+    served : OneOwed holds faults → IsServedCall holds faults old new words hasK faultsK oldK newK hasL faultsL oldL newL result
     served one = record { answered = a.answered; torn = a.torn; memory = a.memory; complete = complete one; unread = unread; unwritten = unwritten }
 
   -- by what an answer comes to, where it is given to the sinks
-  pub given : (r : Result Texts Refusal) → OneOwed holds faults → Comes r (IsDue words (seen (holds old) (faults old) (faults new))) → Looks holds faults old new r
+  pub given : (r : Result Texts Refusal) → OneOwed holds faults → Comes r (IsDue words (file_read (holds old) (faults old) (faults new))) → Looks holds faults old new r
       → ((result ≡ 7 → ⊥) → (result ≡ 8 → ⊥) → (answer : Result Texts Fault) × (told_of r ≡ Some answer) × (result ≡ status_of answer) × AreGained hasK faultsK oldK newK hasL faultsL oldL newL (texts_of answer))
       → (result ≡ 7 → (answer : Result Texts Fault) × (told_of r ≡ Some answer) × AreTorn hasK faultsK oldK newK hasL faultsL oldL newL (texts_of answer)) → (result ≡ 8 → (newK ≡ oldK) × (newL ≡ oldL))
-      → IsServed holds faults old new words hasK faultsK oldK newK hasL faultsL oldL newL result
+      → IsServedCall holds faults old new words hasK faultsK oldK newK hasL faultsL oldL newL result
   given r one due looks answered torn memory =
       served (record {
         answered = λ other sound. let a = answered other sound in (a.0, owed holds faults old new words r a.0 due looks a.1, a.2, a.3);

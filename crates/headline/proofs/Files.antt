@@ -2,7 +2,7 @@
 use Rattle.std.proofs.Common.{◌≡◌, ℕ, ◌≤◌, Option, Some, None, Result, Ok, Err, List, length, refl, sym, ap, ◌∙◌, subst, arith}
 use Rattle.elf_write.proofs.MeantAgain.{assembled_accepted}
 use Rattle.elf_write.proofs.Writable.{can_write}
-use Rattle.elf_write.specs.Made.{IsMeantAgain, elf_of, written}
+use Rattle.elf_write.specs.Made.{IsMeantAgain, elf_of, file_or_fault}
 use Rattle.elf_form.specs.Meaning.{meaning_of as elf_meaning}
 use Rattle.elf_write.proofs.ReadAgain.{read_again}
 use Rattle.elf_write.specs.Layout.{elf_bytes}
@@ -22,21 +22,21 @@ use Rattle.refusals.specs.Refusals.{Step, Then}
 use Rattle.rv_asm.proofs.AssembledImages.{assembled_is}
 use Rattle.rv_asm.specs.Assembly.{assembled}
 use Rattle.rv_asm.specs.declared.fault.AsmFault.{AsmFault}
-use Rattle.commands.specs.Inputs.{AreInputs, IsConfContent, IsConfiguration, IsProgram, IsProgramContent, MeansConf, image_of}
+use Rattle.commands.specs.Inputs.{AreInputs, IsConfContent, IsConfiguration, IsProgramOfFile, IsProgramContent, MeansConf, image_of}
 use Rattle.commands.specs.Logs.{IsLog, IsLogContent, MeansLog, log_with, or_bad_log}
-use Rattle.commands.specs.Sights.{Sight}
+use Rattle.commands.specs.Sights.{FileReading}
 use Rattle.commands.specs.declared.inputs.Inputs.{Inputs}
 use Rattle.headline.specs.Headline.{IsConfigurationOf, IsProgramOf}
 use Rattle.headline.proofs.Steps.{Came, came, content_of, ok_is}
 
 -- what is seen of a file are bytes
-abbrev pub IsOfBytes : Sight → List ℕ → Type 0
+abbrev pub IsOfBytes : FileReading → List ℕ → Type 0
 IsOfBytes sees name = (bytes : List ℕ) → sees name (Ok bytes) → IsBytes bytes
 
 -- ---- programs and configurations
 
-module _ (sees : Sight) where
-  pub program_of : (name : List ℕ) (image : Image) → IsOfBytes sees name → IsProgram sees name (Ok image) → IsProgramOf sees name image
+module _ (sees : FileReading) where
+  pub program_of : (name : List ℕ) (image : Image) → IsOfBytes sees name → IsProgramOfFile sees name (Ok image) → IsProgramOf sees name image
   program_of name image bytes step =
       let b = came (IsProgramContent sees name) (λ bytes x. x ≡ image_of bytes) image step in
       let c = content_of sees 33554432 _ name b.a b.first in
@@ -57,7 +57,7 @@ module _ (sees : Sight) where
   inputs_of program conf read bytes step =
       let ends : Image → Conf → Step Inputs = λ image c inputs. inputs ≡ Ok (record { image = image; conf = c }) in
       let goes : Image → Step Inputs = λ image. Then (IsConfiguration sees conf) (ends image) in
-      let p = came (IsProgram sees program) goes read step in
+      let p = came (IsProgramOfFile sees program) goes read step in
       let c = came (IsConfiguration sees conf) (ends p.a) read p.next in
       let is : read ≡ record { image = p.a; conf = c.a } = ok_is read (record { image = p.a; conf = c.a }) c.next in
       subst (AreRead program conf) (sym is) (record { holds_program = program_of program p.a bytes p.first; holds_conf = configuration_of conf c.a c.first })
@@ -76,7 +76,7 @@ spells b bytes s quanta m = let v = some_version b s quanta (version_of b) refl 
 through : {L X : Type 0} (a b : L) → a ≡ b → (f : L → X) → f a ≡ f b
 through a b e f = ap f e
 
-module _ (sees : Sight) (name : List ℕ) where
+module _ (sees : FileReading) (name : List ℕ) where
   -- what the file of a log holds
   pub record IsLogRead (settings : Settings) (quanta : List Quantum) : Type 0 where
     pub log : List ℕ
@@ -100,7 +100,7 @@ module _ (sees : Sight) (name : List ℕ) where
 
 -- ---- ELF files of texts
 
-written_is : (image : Image) (file : List ℕ) (r : Result Image AsmFault) → r ≡ Ok image → written r ≡ Ok file → file ≡ elf_bytes image
+written_is : (image : Image) (file : List ℕ) (r : Result Image AsmFault) → r ≡ Ok image → file_or_fault r ≡ Ok file → file ≡ elf_bytes image
 written_is image file (Ok x) e w = let same : x ≡ image = ok_is x image e in sym (ok_is (elf_bytes x) file w) ∙ ap elf_bytes same
 written_is image file (Err fault) e w = absurd (cc)
 

@@ -50,13 +50,13 @@ use Rattle.whole_run.proofs.Logged.{can_spell}
 use Rattle.whole_run.specs.Recorded.{log_of}
 use Rattle.whole_run.specs.Replayed.{WholeFit, misfit_of}
 use Rattle.code_points.specs.Objects.{objects_of}
-use Rattle.commands.specs.Advising.{IsAdviseDue, IsReportContent, advised}
+use Rattle.commands.specs.Advising.{IsAdviseDue, IsReportContent, advice_texts}
 use Rattle.commands.specs.Blocks.{AreCounted, IsBlocksDue}
-use Rattle.commands.specs.Directing.{AreDirectives, IsDirectDue, IsDirectRun, IsDirected, IsDirection, IsDirectivesContent, MeansDirectives, conf_with, or_bad_directives}
+use Rattle.commands.specs.Directing.{AreDirectives, IsDirectDue, IsDirectRun, IsConfAfter, IsDirection, IsDirectivesContent, MeansDirectives, conf_with, or_bad_directives}
 use Rattle.commands.specs.Due.{IsDueFor}
 use Rattle.commands.specs.Found.{AreFound, IsFound, resources_of}
 use Rattle.commands.specs.Given.{inputs_with}
-use Rattle.commands.specs.Inputs.{AreInputs, IsElfFile, IsProgram, IsProgramContent, file_of, or_bad_text}
+use Rattle.commands.specs.Inputs.{AreInputs, IsElfFile, IsProgramOfFile, IsProgramContent, file_of, or_bad_text}
 use Rattle.commands.specs.Listing.{IsAsmDue, IsPointsDue}
 use Rattle.commands.specs.Logs.{IsLog, misfit_fault}
 use Rattle.commands.specs.Output.{output}
@@ -64,7 +64,7 @@ use Rattle.commands.specs.Plans.{IsPlan, IsPlanDue}
 use Rattle.commands.specs.Replays.{IsRelogDue, IsReplay, IsReplayDue, IsReplayOf, replayed}
 use Rattle.commands.specs.Runnable.{FoundCanRun, MakesOf}
 use Rattle.commands.specs.Runs.{AreTexts, IsByWorkers, IsInOrder, IsLiveDue, IsPrepared, IsRunDue, IsSession, IsSessionOf, IsStressDue, IsVisiDue, Order, report_alone, report_and_log, stress_order, stress_session, stress_sight, summary_of, views_of}
-use Rattle.commands.specs.Sights.{Sight}
+use Rattle.commands.specs.Sights.{FileReading}
 use Rattle.commands.specs.declared.finding.Found.{Found}
 use Rattle.commands.specs.declared.inputs.Inputs.{Inputs}
 use Rattle.commands.specs.declared.texts.Texts.{Texts}
@@ -104,7 +104,7 @@ run_with image spelled made found settings quanta = record {
 same_settings : (image : Image) (found : Found) (settings : Settings) → (inputs_with image found settings).settings ≡ settings
 same_settings image found settings = refl
 
-module _ (laws : AllLaws) (sees : Sight) where
+module _ (laws : AllLaws) (sees : FileReading) where
   -- a run of what files hold
   record IsMadeRun (program conf : List ℕ) (r : Run) : Type 0 where
     run_of : IsRunOf sees program conf r
@@ -264,8 +264,8 @@ module _ (laws : AllLaws) (sees : Sight) where
         let image : Image = (a.a).image in
         let conf : Conf = (a.a).conf in
         let f = came (IsFound image settings.harts conf) (λ found. IsDirection q sees a.a) texts a.next in
-        let d = came (AreDirectives sees q.directives) (λ directives. Then (IsDirected conf directives) (IsDirectRun q image)) texts f.next in
-        let m = came (IsDirected conf d.a) (IsDirectRun q image) texts d.next in
+        let d = came (AreDirectives sees q.directives) (λ directives. Then (IsConfAfter conf directives) (IsDirectRun q image)) texts f.next in
+        let m = came (IsConfAfter conf d.a) (IsDirectRun q image) texts d.next in
         let g = came (IsFound image settings.harts m.a) (λ found. IsSession (IsInOrder q.order) report_alone (inputs_with image found settings)) texts m.next in
         let i : SessionInputs = inputs_with image g.a settings in
         let t = opened (bad_pick i) i (AreTexts (IsInOrder q.order) report_alone i) texts g.next in
@@ -289,13 +289,13 @@ module _ (laws : AllLaws) (sees : Sight) where
 
     blocks_tell : (q : BlocksRequest) → IsBlocksDue q sees (Ok texts) → Tells (Some (blocks q)) sees texts
     blocks_tell q due =
-        let p = came (IsProgram sees q.program) (AreCounted q) texts due in
+        let p = came (IsProgramOfFile sees q.program) (AreCounted q) texts due in
         (p.a, program_of sees q.program p.a (bytes q.program) p.first, p.next)
 
     points_tell : (name : List ℕ) → IsPointsDue name sees (Ok texts) → Tells (Some (points name)) sees texts
     points_tell name due =
         let text : Image → Texts = λ image. output (points_text (procedures_of image) (points_of image (procedures_of image)) (skipped_of image)) in
-        let p = came (IsProgram sees name) (λ image t. t ≡ Ok (text image)) texts due in
+        let p = came (IsProgramOfFile sees name) (λ image t. t ≡ Ok (text image)) texts due in
         (p.a, program_of sees name p.a (bytes name) p.first, ok_is texts (text p.a) p.next)
 
     plan_tells : (q : PlanRequest) → IsPlanDue q sees (Ok texts) → Tells (Some (plan q)) sees texts
@@ -328,13 +328,13 @@ module _ (laws : AllLaws) (sees : Sight) where
         let is : texts ≡ output (spelled Two settings quanta) = ok_is texts (output (spelled Two settings quanta)) l.next in
         (read_log.log, read_log.told, (settings, quanta), read_log.means, ap (λ (t : Texts). meaning_of t.out) is ∙ laws.logs Two settings quanta read_log.able, ap (λ (t : Texts). t.log) is)
 
-    advised_is : (x : Result (List Verdict) ReportFault) → Ok texts ≡ advised x → (verdicts : List Verdict) × (x ≡ Ok verdicts) × (texts ≡ output (advice verdicts))
+    advised_is : (x : Result (List Verdict) ReportFault) → Ok texts ≡ advice_texts x → (verdicts : List Verdict) × (x ≡ Ok verdicts) × (texts ≡ output (advice verdicts))
     advised_is (Ok verdicts) e = (verdicts, refl, ok_is texts (output (advice verdicts)) e)
     advised_is (Err (fault.BadReport place)) e = absurd (cc)
 
     advise_tells : (name : List ℕ) → IsAdviseDue name sees (Ok texts) → Tells (Some (advise name)) sees texts
     advise_tells name due =
-        let r = came (IsReportContent sees name) (λ report t. t ≡ advised (verdicts_of report)) texts due in
+        let r = came (IsReportContent sees name) (λ report t. t ≡ advice_texts (verdicts_of report)) texts due in
         let c = content_of sees 33554432 _ name r.a r.first in
         let v = advised_is (verdicts_of r.a) r.next in
         (r.a, c.told, v.0, v.1, v.2)
@@ -355,7 +355,7 @@ stress_bytes q few b e =
     let is : b ≡ program_text q.procs q.seed = ok_is b (program_text q.procs q.seed) e in
     subst IsBytes (sym is) (program_bytes q.procs q.seed few)
 
-stress_tells : AllLaws → (q : StressRequest) (sees : Sight) (texts : Texts) → q.procs < 2 ^ 32 → IsStressDue q (Ok texts) → Tells (Some (stress q)) sees texts
+stress_tells : AllLaws → (q : StressRequest) (sees : FileReading) (texts : Texts) → q.procs < 2 ^ 32 → IsStressDue q (Ok texts) → Tells (Some (stress q)) sees texts
 stress_tells laws q sees texts few due =
     let k = asked_run laws (stress_sight q) stress_session (IsInOrder (stress_order q)) (summary_of q.procs) texts (stress_bytes q few) stress_range (λ i quanta o. o.whole) due in
     (k.r, k.asked, k.plain, k.is ∙ ap (λ (p : ReportParts). output (summary_text q.procs p)) k.parts)
@@ -363,7 +363,7 @@ stress_tells laws q sees texts few due =
 -- ---- all
 
 -- What is due for a request tells this.
-pub tells : AllLaws → (sees : Sight) → ((name : List ℕ) → IsOfBytes sees name) → (texts : Texts) (q : Option Request) → ((r : Request) → q ≡ Some r → IsRanged r) → IsDueFor q sees (Ok texts) → Tells q sees texts
+pub tells : AllLaws → (sees : FileReading) → ((name : List ℕ) → IsOfBytes sees name) → (texts : Texts) (q : Option Request) → ((r : Request) → q ≡ Some r → IsRanged r) → IsDueFor q sees (Ok texts) → Tells q sees texts
 tells laws sees bytes texts None range due = absurd (cc)
 tells laws sees bytes texts (Some (run q)) range due = run_tells laws sees bytes texts q (range (run q) refl) due
 tells laws sees bytes texts (Some (live q)) range due = live_tells laws sees bytes texts q (range (live q) refl) due

@@ -15,8 +15,8 @@ use Rattle.pn_types.specs.declared.image.Image.{Image}
 use Rattle.pn_types.specs.declared.image.Segment.{Segment}
 use Rattle.rv_asm.proofs.CleanCode.{IsClean, code_clean}
 use Rattle.rv_asm.proofs.SoundDrafts.{IsSound, blank_sound, passed_sound}
-use Rattle.rv_asm.specs.Assembly.{assembled, closed, closed_by, data_bytes, image_of, segment, sized}
-use Rattle.rv_asm.specs.FirstPass.{◌>>=◌, Draft, blank_draft, data_start, len_all, passed, text_start}
+use Rattle.rv_asm.specs.Assembly.{assembled, draft_closed, closed_by, data_bytes, image_of, segment, sized}
+use Rattle.rv_asm.specs.FirstPass.{◌>>=◌, Draft, blank_draft, data_start, len_all, draft_after_lines, text_start}
 use Rattle.rv_asm.specs.SecondPass.{code, word_bytes}
 use Rattle.rv_asm.specs.declared.fault.AsmFault.{AsmFault}
 use Rattle.rv_asm.specs.declared.fault.AsmFault.TheVariants.{DataTooLong, NoText, TextTooLong}
@@ -142,8 +142,8 @@ closed_is d whole (Some line) e = absurd (cc)
 pub asm_narrow : (text : List ℕ) (image : Image) → assembled text ≡ Ok image → AllByRecursion (λ w. w < 2 ^ 32) (words_of (text_of image))
 unfolding assembled
 asm_narrow text image e =
-    let first = ok_step (passed 1 blank_draft (lines text)) _ image e in
-    let whole = ok_step (closed first.0) _ image first.1.1 in
+    let first = ok_step (draft_after_lines 1 blank_draft (lines text)) _ image e in
+    let whole = ok_step (draft_closed first.0) _ image first.1.1 in
     let bytes = ok_step (code whole.0.labels whole.0.text_part) _ image whole.1.1 in
     let found = sized_of whole.0 bytes.0 image bytes.1.1 in
     let same : first.0 ≡ whole.0 = closed_is first.0 whole.0 first.0.opened whole.1.0 in

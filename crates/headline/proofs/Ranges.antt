@@ -3,7 +3,7 @@ use Rattle.std.proofs.Common.{◌≡◌, ℕ, ◌≤◌, ◌<◌, ◌^◌, Bool,
 use Rattle.std.specs.Prelude.{nat_le, option_map, codes}
 use Rattle.std.specs.Option.{option_and_then, option_map_or}
 use Rattle.std.proofs.lemmas.Bool.{leb-true}
-use Rattle.pn_text.specs.Numbers.{number_of}
+use Rattle.pn_text.specs.Numbers.{small_number}
 use Rattle.pn_types.specs.Settings.{AreInRange}
 use Rattle.pn_types.specs.declared.settings.Settings.{Settings}
 use Rattle.command_words.proofs.Ranges.{number_is_at_most}
@@ -42,7 +42,7 @@ some_of false m n e = absurd (cc)
 
 between : (least most n : ℕ) (text : Text) → number_between least most text ≡ Some n → (least ≤ n) × (n ≤ most)
 between least most n text e =
-    let f = found (number_of text most) (λ k. cond (nat_le least k) (Some k) None) n e in
+    let f = found (small_number text most) (λ k. cond (nat_le least k) (Some k) None) n e in
     let h = some_of (nat_le least f.a) f.a n f.then in
     let low = leb-true least f.a h.0 in
     let high = number_is_at_most text most f.a f.is in

@@ -18,7 +18,7 @@ use Rattle.resource_tree.proofs.Canonical.{there}
 use Rattle.report.specs.declared.parts.ShownPart.{ShownPart}
 use Rattle.session.specs.Parts.{hypothesis_name, metric_of, name_of, node_part, phase_name, refused_part, search_part, shown_part, shown_parts, units_of}
 use Rattle.session_spec.specs.declared.data.RefusedWish.{RefusedWish}
-use Rattle.session_spec.specs.declared.data.Shown.{Shown}
+use Rattle.session_spec.specs.declared.data.MetricFocusPair.{MetricFocusPair}
 use Rattle.session_spec.specs.Inputs.{Inputs}
 use Rattle.w3_search.specs.declared.node.Node.{Node}
 use Rattle.std.proofs.lemmas.Bool.{and_parts, ltb-true}
@@ -30,19 +30,19 @@ use Rattle.rv_exec.specs.Start.{start}
 use Rattle.rv_word.specs.Plain.{Plain, Words}
 use Rattle.session.specs.Given.{HasWindow}
 use Rattle.session_spec.specs.Laws.{VerdictsTold}
-use Rattle.session_spec.specs.Inputs.{harts_of}
+use Rattle.session_spec.specs.Inputs.{harts_of_focus}
 use Rattle.session_spec.specs.Searches.{rules_by, rules_of}
 use Rattle.session_spec.specs.States.{State}
 use Rattle.session_spec.specs.Told.{AreEnded, IsJudged, IsOpenEnd, IsVerdict}
 use Rattle.session_spec.specs.Verdicts.{ticks_in}
-use Rattle.session_spec.specs.Work.{closed, work}
+use Rattle.session_spec.specs.Work.{final_state, after_quanta}
 use Rattle.w3_axes.specs.Refining.{threshold_of}
 use Rattle.w3_axes.specs.Testing.{holds}
 use Rattle.w3_search.specs.declared.node.NodeState.TheVariants.{Confirmed, Rejected}
 use Rattle.advice.specs.Seams.{AreSums, HasNumbers, AreSearchLines, IsHistogramLine, IsNodeLine, IsRefusedLine, IsSmall, is_one_line}
 use Rattle.advice.proofs.CanonicalFoci.{canonical_is_focus}
 use Rattle.advice.proofs.Spaced.{focus_above, word_line}
-use Rattle.headline.specs.Readable.{HasNames, IsNodeOf, IsPrintable, SessionIsReadable}
+use Rattle.headline.specs.Readable.{HasNames, IsNodeOfPhase, IsPrintable, SessionIsReadable}
 
 -- what holds of all holds of one
 at : {X : Type 0} (P : X → Type 0) (xs : List X) (k : ℕ) (x : X) → All P xs → slice_get xs k ≡ Some x → P x
@@ -63,14 +63,14 @@ module _ (i : Inputs) (h : HasNames i) where
   refused : (r : RefusedWish) → IsRefusedLine (refused_part i r)
   refused r = record { metric = metric_name r.metric (metric_of i r.metric) refl; focus = focus_line r.focus }
 
-  shown_one : (s : Shown) (bins : List Bin) → IsHistogramLine (shown_part i s (hist_of i.settings.bins bins))
+  shown_one : (s : MetricFocusPair) (bins : List Bin) → IsHistogramLine (shown_part i s (hist_of i.settings.bins bins))
   shown_one s bins = record {
     metric = metric_name s.metric (metric_of i s.metric) refl;
     focus = focus_line s.focus;
     units = metric_units s.metric (metric_of i s.metric) refl;
   }
 
-  shown : (ss : List Shown) (rs : List (List Bin)) → All IsHistogramLine (shown_parts i ss rs)
+  shown : (ss : List MetricFocusPair) (rs : List (List Bin)) → All IsHistogramLine (shown_parts i ss rs)
   shown [] rs = All-nil IsHistogramLine
   shown (s ∷ ss) [] = All-nil IsHistogramLine
   shown (s ∷ ss) (r ∷ rs) =
@@ -92,7 +92,7 @@ module _ (i : Inputs) (h : HasNames i) where
       let p = there i.checked.hypotheses n few in
       ap (λ (o : Option Hypothesis). is_name (option_map_or (λ q. q.name) o [])) p.1 ∙ at (λ (q : Hypothesis). is_name q.name ≡ true) i.checked.hypotheses n p.0 h.hypotheses p.1
 
-  node : (n : Node) → IsNodeOf i n → HasNumbers n n.state → IsNodeLine (node_part i n)
+  node : (n : Node) → IsNodeOfPhase i n → HasNumbers n n.state → IsNodeLine (node_part i n)
   node n g numbers = record {
     phase = phase n.phase g.phase;
     parent = g.parent;
@@ -101,7 +101,7 @@ module _ (i : Inputs) (h : HasNames i) where
     numbers = numbers;
   }
 
-  searched : (o : Option SearchDecl) (nodes : List Node) → IfSome o (λ decl. IsSmall decl.window) → IsSmall (length nodes) → All (IsNodeOf i) nodes → ((k : ℕ) (n : Node) → slice_get nodes k ≡ Some n → HasNumbers n n.state) → IfSome (search_part i o nodes) AreSearchLines
+  searched : (o : Option SearchDecl) (nodes : List Node) → IfSome o (λ decl. IsSmall decl.window) → IsSmall (length nodes) → All (IsNodeOfPhase i) nodes → ((k : ℕ) (n : Node) → slice_get nodes k ≡ Some n → HasNumbers n n.state) → IfSome (search_part i o nodes) AreSearchLines
   searched None nodes window count each numbers = tt
   searched (Some decl) nodes window count each numbers = record {
     window = window;
@@ -135,9 +135,9 @@ holds_ticks value ticks threshold h = ltb-true 0 ticks (and_parts (nat_lt 0 tick
 module _ (i : Inputs) (owns : List ℕ) (n : Node) (few : IsSmall (length owns)) where
   sums : IsVerdict i owns n → AreSums n
   sums v =
-      let ticks = few_ticks owns (harts_of i n.focus) n.from n.to in
+      let ticks = few_ticks owns (harts_of_focus i n.focus) n.from n.to in
       record {
-        value = subst IsSmall (sym v.value) (small_measure (program_of i.image) v.plan (harts_of i n.focus) n.from n.from n.to owns (start i.image i.settings.harts));
+        value = subst IsSmall (sym v.value) (small_measure (program_of i.image) v.plan (harts_of_focus i n.focus) n.from n.from n.to owns (start i.image i.settings.harts));
         ticks = omega (arith, v.ticks, ticks);
         from = omega (arith, v.ordered, v.past);
         to = omega (arith, v.past);
@@ -171,7 +171,7 @@ some_window i (Some decl) h = h
 
 pub session_is_readable : VerdictsTold → SessionIsReadable
 session_is_readable told i quanta skipped width window h g each small =
-    let s = closed i (work i quanta) in
+    let s = final_state i (after_quanta i quanta) in
     let ended = told.closes i quanta width (some_window i i.checked.search window) g.time in
     record {
       harts = g.harts;

@@ -16,7 +16,7 @@ use Rattle.session_spec.specs.Inputs.{Inputs}
 use Rattle.session_spec.specs.Run.{IsRun}
 use Rattle.session_spec.specs.Searches.{rules_by, rules_of}
 use Rattle.session_spec.specs.Told.{AreEnded}
-use Rattle.session_spec.specs.Work.{work}
+use Rattle.session_spec.specs.Work.{after_quanta}
 use Rattle.headline.specs.Honest.{AreVerdicts, IsHonest, end_of}
 use Rattle.headline.proofs.Histories.{history}
 use Rattle.headline.proofs.Times.{early}
@@ -44,7 +44,7 @@ module _ (laws : Laws) (i : Inputs) (quanta : List Quantum) where
   searched ended None = tt
   searched ended (Some decl) = record {
     nodes = refl;
-    rules = closed_rules i (work i quanta) ∙ work_rules i quanta;
+    rules = closed_rules i (after_quanta i quanta) ∙ work_rules i quanta;
     history = history i quanta;
     verdicts = ended;
     costs = λ before behind e. (laws.costs).moments i before;

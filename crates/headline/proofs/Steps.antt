@@ -8,7 +8,7 @@ use Rattle.session_spec.specs.Inputs.{Inputs}
 use Rattle.session_spec.specs.declared.data.RefusedWish.{RefusedWish}
 use Rattle.commands.specs.Given.{pick_fault}
 use Rattle.commands.specs.Runs.{IsOpened}
-use Rattle.commands.specs.Sights.{IsContent, Sight, limited}
+use Rattle.commands.specs.Sights.{IsContent, FileReading, limited}
 use Rattle.commands.specs.declared.texts.Texts.{Texts}
 
 -- where two steps came to a value, the first came to one, and the second after it
@@ -32,7 +32,7 @@ opened (Some wish) i comes texts e = absurd (let no : Ok texts ≡ Err (pick_fau
 -- ---- files
 
 -- what a file has is what was seen of it, and it isn't too long
-pub record Content (sees : Sight) (most : ℕ) (name content : List ℕ) : Type 0 where
+pub record Content (sees : FileReading) (most : ℕ) (name content : List ℕ) : Type 0 where
   pub told : sees name (Ok content)
   pub few : length content ≤ most
 
@@ -40,7 +40,7 @@ within : (most : ℕ) (fault : Fault) (bytes content : List ℕ) (b : Bool) → 
 within most fault bytes content true l e = absurd (cc)
 within most fault bytes content false l e = (sym (ok_is content bytes e), ltb-false most (length bytes) l)
 
-pub content_of : (sees : Sight) (most : ℕ) (fault : Fault) (name content : List ℕ) → IsContent sees most fault name (Ok content) → Content sees most name content
+pub content_of : (sees : FileReading) (most : ℕ) (fault : Fault) (name content : List ℕ) → IsContent sees most fault name (Ok content) → Content sees most name content
 content_of sees most fault name content step =
     let c = came (sees name) (λ bytes x. x ≡ limited most fault bytes) content step in
     let w = within most fault c.a content (nat_lt most (length c.a)) refl c.next in

@@ -4,7 +4,7 @@ use Rattle.std.specs.Prelude.{slice_get}
 use Rattle.std.proofs.lemmas.Nat.{mul-le}
 use Rattle.machine.proofs.Effects.{fixed}
 use Rattle.machine.specs.Cores.{Core, start_core}
-use Rattle.machine.specs.Effects.{after}
+use Rattle.machine.specs.Effects.{after_event}
 use Rattle.machine.specs.Events.{Event}
 use Rattle.machine.specs.Quanta.{TimeGoesOn, ticks_in}
 use Rattle.machine.specs.Replays.{replay}
@@ -28,7 +28,7 @@ ticks_few limit (x ∷ xs) low =
 
 budget_stays : (es : List Event) (c : Core) → (replay es c).budget ≡ c.budget
 budget_stays [] c = refl
-budget_stays (e ∷ es) c = budget_stays es (after c e) ∙ (fixed c e).1
+budget_stays (e ∷ es) c = budget_stays es (after_event c e) ∙ (fixed c e).1
 
 many_harts : (more h n : ℕ) (image : Image) → length (harts_from more h image n) ≡ more
 many_harts zero h n image = refl

@@ -1,11 +1,11 @@
 -- What follows for a call that serves words.
 use Rattle.std.proofs.Common.{◌≡◌, ◌≢◌, ℕ, List, Option, Result, Ok, Err, sym, ◌∙◌, arith}
 use Rattle.command_words.specs.Requests.{request_of}
-use Rattle.commands.specs.Sights.{seen}
+use Rattle.commands.specs.Sights.{file_read}
 use Rattle.commands.specs.declared.texts.Texts.{Texts}
 use Rattle.outside.specs.Outside.{Holding}
 use Rattle.headline.specs.Answers.{status_of, texts_of}
-use Rattle.headline.specs.Serving.{AreGained, IsOwed, IsServed}
+use Rattle.headline.specs.Serving.{AreGained, IsOwed, IsServedCall}
 use Rattle.refusals.specs.Faults.{fault_status}
 use Rattle.refusals.specs.declared.fault.Fault.{Fault}
 use Rattle.refusals.specs.declared.fault.Fault.TheVariants.{Usage, FileFault, BadProgram, BadConf, BadPick, BadLog, TooManyBlocks, BadDirectives, BadReport}
@@ -28,14 +28,14 @@ module _ {F K L : Type 0} (holds : F → List ℕ → Holding) (faults : F → L
     (honest : OwedIsHonest holds faults) where
   -- both sinks gained texts that tell what the headline says
   abbrev Telling : Type 0
-  Telling = (texts : Texts) × AreGained hasK faultsK oldK newK hasL faultsL oldL newL texts × Tells (request_of words) (seen (holds old) (faults old) (faults new)) texts
+  Telling = (texts : Texts) × AreGained hasK faultsK oldK newK hasL faultsL oldL newL texts × Tells (request_of words) (file_read (holds old) (faults old) (faults new)) texts
 
   gave : (answer : Result Texts Fault) → IsOwed holds faults old new words answer → status ≡ status_of answer
       → AreGained hasK faultsK oldK newK hasL faultsL oldL newL (texts_of answer) → status ≡ 0 → Telling
   gave (Ok texts) owed is gained zero = (texts, gained, honest old new words texts owed)
   gave (Err fault) owed is gained zero = absurd (not_zero fault (sym is ∙ zero))
 
-  pub told : IsServed holds faults old new words hasK faultsK oldK newK hasL faultsL oldL newL status → IsTold holds faults old new words hasK faultsK oldK newK hasL faultsL oldL newL status
+  pub told : IsServedCall holds faults old new words hasK faultsK oldK newK hasL faultsL oldL newL status → IsTold holds faults old new words hasK faultsK oldK newK hasL faultsL oldL newL status
   told served = record {
     served = served;
     told = λ zero. let a = served.answered (λ e. omega arith) (λ e. omega arith) in gave a.0 a.1 a.2 a.3 zero;

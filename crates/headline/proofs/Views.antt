@@ -7,15 +7,15 @@ use Rattle.machine.specs.Cores.{In}
 use Rattle.report.specs.declared.parts.ShownPart.{ShownPart}
 use Rattle.session.specs.Bins.{IsPartOf}
 use Rattle.session.specs.Parts.{parts_of, shown_part, shown_parts}
-use Rattle.session_spec.specs.Bins.{AreMeasured, AreRecorded, IsRecorded}
+use Rattle.session_spec.specs.Bins.{AreMeasured, AreRecorded, AreSamplesOf}
 use Rattle.session_spec.specs.Feed.{AreFed, told_at}
 use Rattle.session_spec.specs.Due.{place_behind}
 use Rattle.session_spec.specs.Inputs.{Inputs}
 use Rattle.session_spec.specs.States.{State}
-use Rattle.session_spec.specs.declared.data.Latest.{Latest}
-use Rattle.session_spec.specs.declared.data.Shown.{Shown}
+use Rattle.session_spec.specs.declared.data.LatestSample.{LatestSample}
+use Rattle.session_spec.specs.declared.data.MetricFocusPair.{MetricFocusPair}
 
-module _ (i : Inputs) (s : State) (feed : List Latest) where
+module _ (i : Inputs) (s : State) (feed : List LatestSample) where
   -- the part of a pair with its samples in the place of its bins
   abbrev IsFedPart : ℕ → ShownPart → Type 0
   IsFedPart n part = IsPartOf i s (record part { bins = told_at n feed })
@@ -23,7 +23,7 @@ module _ (i : Inputs) (s : State) (feed : List Latest) where
   abbrev AreFedParts : ℕ → List ShownPart → Type 0
   AreFedParts m ps = (k : ℕ) (part : ShownPart) → slice_get ps k ≡ Some part → IsFedPart (m + k) part
 
-  one_fed : (m : ℕ) (x : Shown) (r : List Bin) → In x s.kept.shown → x.node ≡ None → IsRecorded i s.owns x r → told_at m feed ≡ r → IsFedPart m (shown_part i x (hist_of i.settings.bins r))
+  one_fed : (m : ℕ) (x : MetricFocusPair) (r : List Bin) → In x s.kept.shown → x.node ≡ None → AreSamplesOf i s.owns x r → told_at m feed ≡ r → IsFedPart m (shown_part i x (hist_of i.settings.bins r))
   one_fed m x r listed wished k e = record {
     x = x;
     listed = listed;
@@ -47,8 +47,8 @@ module _ (i : Inputs) (s : State) (feed : List Latest) where
       subst (λ (n : ℕ). IsFedPart n q) (sym next) (later k q e)
   fed_next (Some node) m part rest here later k q e = later k q e
 
-  all_fed : (m : ℕ) (xs : List Shown) (rs : List (List Bin)) → ((x : Shown) → In x xs → In x s.kept.shown)
-      → ((n : ℕ) (x : Shown) (r : List Bin) → slice_get xs n ≡ Some x → slice_get rs n ≡ Some r → IsRecorded i s.owns x r) → AreFed m feed xs rs → AreFedParts m (shown_parts i xs rs)
+  all_fed : (m : ℕ) (xs : List MetricFocusPair) (rs : List (List Bin)) → ((x : MetricFocusPair) → In x xs → In x s.kept.shown)
+      → ((n : ℕ) (x : MetricFocusPair) (r : List Bin) → slice_get xs n ≡ Some x → slice_get rs n ≡ Some r → AreSamplesOf i s.owns x r) → AreFed m feed xs rs → AreFedParts m (shown_parts i xs rs)
   all_fed m [] rs among each fed = λ k p e. absurd (cc)
   all_fed m (x ∷ xs) [] among each fed = λ k p e. absurd (cc)
   all_fed m (x ∷ xs) (r ∷ rs) among each fed =

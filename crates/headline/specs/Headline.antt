@@ -15,7 +15,7 @@ use Rattle.commands.specs.Output.{output}
 use Rattle.commands.specs.Plans.{IsPlan}
 use Rattle.commands.specs.Runnable.{IsConfOf, IsImageOf}
 use Rattle.commands.specs.Runs.{IsByWorkers, IsInOrder, Order, stress_order, stress_session, stress_sight}
-use Rattle.commands.specs.Sights.{Sight}
+use Rattle.commands.specs.Sights.{FileReading}
 use Rattle.commands.specs.declared.finding.Found.{Found}
 use Rattle.commands.specs.declared.texts.Texts.{Texts}
 use Rattle.directives.specs.Acts.{applied}
@@ -35,7 +35,7 @@ use Rattle.session.specs.Bins.{IsPartOf}
 use Rattle.session_spec.specs.Feed.{told_at}
 use Rattle.session_spec.specs.Inputs.{Inputs}
 use Rattle.session_spec.specs.Work.{IsWhole}
-use Rattle.session_spec.specs.declared.data.Latest.{Latest}
+use Rattle.session_spec.specs.declared.data.LatestSample.{LatestSample}
 use Rattle.stress_run.specs.Summary.{summary_text}
 use Rattle.visi_run.specs.Texts.{visi_text}
 use Rattle.headline.specs.Followed.{AreFollowed}
@@ -52,16 +52,16 @@ pub record Run : Type 0 where
   pub parts : ReportParts
 
 -- The image is what the bytes in the file of a name mean.
-abbrev pub IsProgramOf : Sight → List ℕ → Image → Type 0
+abbrev pub IsProgramOf : FileReading → List ℕ → Image → Type 0
 IsProgramOf sees name image = (bytes : List ℕ) × sees name (Ok bytes) × IsImageOf bytes image
 
 -- The text in the file of a name spells the configuration.
-abbrev pub IsConfigurationOf : Sight → List ℕ → Conf → Type 0
+abbrev pub IsConfigurationOf : FileReading → List ℕ → Conf → Type 0
 IsConfigurationOf sees name conf = (text : List ℕ) × sees name (Ok text) × IsConfOf text conf
 
 -- The files of these names hold the program and the configuration; of that, or what is made of it, a check finds no fault. The quanta
 -- are a whole run: each could be taken when it came, and none can follow. What is printed of them is honest.
-pub record IsRunOf (sees : Sight) (program conf : List ℕ) (r : Run) : Type 0 where
+pub record IsRunOf (sees : FileReading) (program conf : List ℕ) (r : Run) : Type 0 where
   pub holds_program : IsProgramOf sees program r.inputs.image
   pub holds_conf : IsConfigurationOf sees conf r.spelled
   pub found : Found
@@ -71,7 +71,7 @@ pub record IsRunOf (sees : Sight) (program conf : List ℕ) (r : Run) : Type 0 w
   pub honest : IsHonest r.inputs r.quanta r.parts
 
 -- It has the settings and the order that are asked for.
-abbrev pub IsAsked : Sight → SessionRequest → Order → Run → Type 0
+abbrev pub IsAsked : FileReading → SessionRequest → Order → Run → Type 0
 IsAsked sees s InOrder r = IsRunOf sees s.program s.conf r × (r.inputs.settings ≡ s.settings) × InOrder r.inputs r.quanta
 
 -- The configuration is taken as it is spelled.
@@ -89,13 +89,13 @@ IsLogOf bytes r = meaning_of bytes ≡ Ok (r.inputs.settings, r.quanta)
 
 -- Each of a number of views was given the same samples. Those of a pair are, in place of its bins, what its plan measures.
 pub record AreViews (views : ℕ) (r : Run) (text : List ℕ) : Type 0 where
-  pub feed : List Latest
+  pub feed : List LatestSample
   pub is : text ≡ visi_text r.parts.shown (replicate views feed)
   pub samples : (n : ℕ) (part : ShownPart) → slice_get r.parts.shown n ≡ Some part →
       IsPartOf r.inputs (end_of r.inputs r.quanta) (record part { bins = told_at n feed })
 
 -- The file of a name holds directives, and what is made of the configuration is what they make. What is printed follows them.
-pub record IsDirectedBy (sees : Sight) (name : List ℕ) (r : Run) : Type 0 where
+pub record IsDirectedBy (sees : FileReading) (name : List ℕ) (r : Run) : Type 0 where
   pub text : List ℕ
   pub told : sees name (Ok text)
   pub directives : List Directive
@@ -105,7 +105,7 @@ pub record IsDirectedBy (sees : Sight) (name : List ℕ) (r : Run) : Type 0 wher
 
 -- ---- the commands
 
-abbrev pub Tells : Option Request → Sight → Texts → Type 0
+abbrev pub Tells : Option Request → FileReading → Texts → Type 0
 Tells None sees texts = ⊥
 Tells (Some (run q)) sees texts =
     (r : Run) × IsAsked sees q.session (IsInOrder q.order) r × IsPlain r × (texts.out ≡ report_of r) × IsLogOf texts.log r

@@ -15,12 +15,12 @@ use Rattle.session_spec.specs.Run.{IsRun}
 use Rattle.session_spec.specs.Searches.{rules_of}
 use Rattle.session_spec.specs.States.{State}
 use Rattle.session_spec.specs.Told.{AreEnded}
-use Rattle.session_spec.specs.Work.{closed, work}
+use Rattle.session_spec.specs.Work.{final_state, after_quanta}
 use Rattle.w3_search.specs.History.{IsHistory}
 
 -- the state of a session after its quanta and its end
 abbrev pub end_of : Inputs → List Quantum → State
-end_of i quanta = closed i (work i quanta)
+end_of i quanta = final_state i (after_quanta i quanta)
 
 -- The program that was never patched, after the session's ticks: those of its turns that weren't taken in trampolines.
 abbrev pub alone : Inputs → List Quantum → Plain
@@ -34,7 +34,7 @@ pub record AreVerdicts (i : Inputs) (quanta : List Quantum) (printed : SearchPar
   pub rules : (end_of i quanta).kept.search.rules ≡ rules_of i
   pub history : IsHistory (end_of i quanta).kept.search
   pub verdicts : AreEnded i quanta (end_of i quanta)
-  pub costs : (before after : List Quantum) → quanta ≡ before ++ after → AreWithin i (work i before)
+  pub costs : (before after : List Quantum) → quanta ≡ before ++ after → AreWithin i (after_quanta i before)
 
 -- Each event of the patched machine could happen when it came, and its ticks are turns that the harts of the program alone could
 -- take. It has that program's memory, output, ticks and stops. The printed harts and output are that program's. The bins of a pair

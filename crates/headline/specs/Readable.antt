@@ -10,7 +10,7 @@ use Rattle.session.specs.Parts.{parts_of}
 use Rattle.session.specs.Given.{HasWindow}
 use Rattle.session_spec.specs.Inputs.{Inputs}
 use Rattle.session_spec.specs.States.{State}
-use Rattle.session_spec.specs.Work.{closed, work}
+use Rattle.session_spec.specs.Work.{final_state, after_quanta}
 use Rattle.w3_search.specs.declared.node.Node.{Node}
 
 -- no LF stands in its name and its units
@@ -26,7 +26,7 @@ pub record HasNames (i : Inputs) : Type 0 where
   pub phases : All (λ p. is_name p.name ≡ true) i.checked.phases
 
 -- a node whose phase and hypothesis there are
-pub record IsNodeOf (i : Inputs) (n : Node) : Type 0 where
+pub record IsNodeOfPhase (i : Inputs) (n : Node) : Type 0 where
   pub phase : n.phase ≤ length i.checked.phases
   pub hypothesis : n.hypothesis < length i.checked.hypotheses
   pub parent : IfSome n.parent IsSmall
@@ -45,5 +45,5 @@ pub record AreSmall (i : Inputs) (s : State) : Type 0 where
 -- What a session gives at its end can be read: each text in it is a name, a focus or in one line, and what was judged true has ticks.
 abbrev pub SessionIsReadable : Type 0
 SessionIsReadable = (i : Inputs) (quanta : List Quantum) (skipped : ℕ) → 1 ≤ i.settings.width → HasWindow i.checked.search → HasNames i
-    → AreSmall i (closed i (work i quanta)) → All (IsNodeOf i) (closed i (work i quanta)).kept.search.nodes → IsSmall skipped
-    → IsReadable (parts_of i (closed i (work i quanta))) skipped
+    → AreSmall i (final_state i (after_quanta i quanta)) → All (IsNodeOfPhase i) (final_state i (after_quanta i quanta)).kept.search.nodes → IsSmall skipped
+    → IsReadable (parts_of i (final_state i (after_quanta i quanta))) skipped

@@ -9,7 +9,7 @@ use Rattle.refusals.specs.declared.refusal.Refusal.TheVariants as refusal
 use Rattle.headline.specs.Answers.{status_of, texts_of}
 use Rattle.headline.specs.Delivery.{IsTorn, Gained}
 use Rattle.commands.specs.Due.{AreOne, IsDue, is_live}
-use Rattle.commands.specs.Sights.{seen, CountedFor}
+use Rattle.commands.specs.Sights.{file_read, CountedFor}
 use Rattle.commands.specs.declared.texts.Texts.{Texts}
 use Rattle.headline.specs.declared.top.Reply.{Reply}
 
@@ -17,18 +17,18 @@ use Rattle.headline.specs.declared.top.Reply.{Reply}
 -- that of a file which the answer names as unread.
 pub record IsOwed {F : Type 0} (holds : F → List ℕ → Holding)
     (faults : F → List ℕ → ℕ) (old new : F) (words : List (List ℕ)) (answer : Result Texts Fault) : Type 0 where
-  pub due : IsDue words (seen (holds old) (faults old) (faults new)) answer
+  pub due : IsDue words (file_read (holds old) (faults old) (faults new)) answer
   pub same : (name : List ℕ) → holds new name ≡ holds old name
   pub counts : CountedFor holds faults old new answer
 
 -- What each file holds is told, and its count of faults is below the end of its type.
-abbrev pub AreTold : {F : Type 0} → (F → List ℕ → Holding) → (F → List ℕ → ℕ) → F → Type 0
-AreTold holds faults files = (name : List ℕ) → IsSome (holds files name) × (faults files name < 2 ^ 64 - 1)
+abbrev pub AreFilesKnown : {F : Type 0} → (F → List ℕ → Holding) → (F → List ℕ → ℕ) → F → Type 0
+AreFilesKnown holds faults files = (name : List ℕ) → IsSome (holds files name) × (faults files name < 2 ^ 64 - 1)
 
 -- Over files that are told one answer is owed; under `live` the texts may be others.
 abbrev pub OneOwed : {F : Type 0} → (F → List ℕ → Holding) → (F → List ℕ → ℕ) → Type 0
 OneOwed {F} holds faults = (old new : F) (words : List (List ℕ)) (a b : Result Texts Fault) →
-    AreTold holds faults old → IsOwed holds faults old new words a
+    AreFilesKnown holds faults old → IsOwed holds faults old new words a
     → IsOwed holds faults old new words b → AreOne (is_live (request_of words)) a b
 
 -- Nothing was read beyond what is due: no count of faults rose, or the answer that is due names a file as unread.
@@ -47,11 +47,11 @@ AreTorn hasK faultsK oldK newK hasL faultsL oldL newL texts =
     ⊎ (Gained hasL faultsL oldL newL texts.log × IsTorn hasK faultsK oldK newK texts.out)
 
 -- a count of faults is below the end of its type, and didn't rise
-abbrev pub IsSpared : ℕ → ℕ → Type 0
-IsSpared before now = (before < 2 ^ 64 - 1) × (now ≡ before)
+abbrev pub IsUnchangedCount : ℕ → ℕ → Type 0
+IsUnchangedCount before now = (before < 2 ^ 64 - 1) × (now ≡ before)
 
 -- What a call does that serves words, by its status.
-pub record IsServed {F K L : Type 0} (holds : F → List ℕ → Holding) (faults : F → List ℕ → ℕ) (old new : F) (words : List (List ℕ))
+pub record IsServedCall {F K L : Type 0} (holds : F → List ℕ → Holding) (faults : F → List ℕ → ℕ) (old new : F) (words : List (List ℕ))
     (hasK : K → Option (List ℕ))
     (faultsK : K → ℕ) (oldK newK : K) (hasL : L → Option (List ℕ)) (faultsL : L → ℕ) (oldL newL : L) (status : ℕ) : Type 0 where
   -- All but 7 and 8: the answer that is due was given, and both sinks gained its bytes.
@@ -64,8 +64,8 @@ pub record IsServed {F K L : Type 0} (holds : F → List ℕ → Holding) (fault
   -- 8: nothing was written, and nothing was read beyond what is due.
   pub memory : status ≡ 8 → (newK ≡ oldK) × (newL ≡ oldL) × IsUntold holds faults old new words
   -- Complete: where texts are due and no sink failed, they were given, or memory ran out.
-  pub complete : AreTold holds faults old → (due : Texts) → IsOwed holds faults old new words (Ok due)
-      → IsSpared (faultsK oldK) (faultsK newK) → IsSpared (faultsL oldL) (faultsL newL) → (status ≡ 0) ⊎ (status ≡ 8)
+  pub complete : AreFilesKnown holds faults old → (due : Texts) → IsOwed holds faults old new words (Ok due)
+      → IsUnchangedCount (faultsK oldK) (faultsK newK) → IsUnchangedCount (faultsL oldL) (faultsL newL) → (status ≡ 0) ⊎ (status ≡ 8)
   -- The status tells of a file that could not be read and of a sink that failed.
   pub unread : (name : List ℕ) → (faults new name ≡ faults old name → ⊥) → (status ≡ 3) ⊎ ((status ≡ 7) ⊎ (status ≡ 8))
   pub unwritten : (faultsK newK ≡ faultsK oldK → ⊥) ⊎ (faultsL newL ≡ faultsL oldL → ⊥) → status ≡ 7

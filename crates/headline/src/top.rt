@@ -3,7 +3,7 @@
 ghost use Rattle.std.specs.Prelude.{◌≡◌, ◌≢◌, false, IfOk, Result, Err, Some, map, string_bytes};
 ghost use Rattle.command_words.specs.Requests.{begins_threaded};
 ghost use Rattle.headline.specs.Answers.{status_of, texts_of};
-ghost use Rattle.headline.specs.Serving.{IsReply, IsServed, AreGained, AreTorn, told_of};
+ghost use Rattle.headline.specs.Serving.{IsReply, IsServedCall, AreGained, AreTorn, told_of};
 ghost use Rattle.commands.specs.declared.texts.Texts.{Texts as texts};
 ghost use Rattle.refusals.specs.declared.fault.Fault.{Fault as fault};
 
@@ -81,7 +81,7 @@ pub fn serve<F: Files, K: Sink, L: Sink>(
     log: &mut L,
 ) -> u8
     requires { begins_threaded (map string_bytes words.now) ≡ false }
-    ensures { IsServed F.holds F.faults files.old files.new
+    ensures { IsServedCall F.holds F.faults files.old files.new
         (map string_bytes words.now) K.has K.faults out.old out.new L.has L.faults log.old log.new result }
 {
     one_owed::<F>();
@@ -118,7 +118,7 @@ pub fn paradyn<R: Threads + Wait + Sync, F: Files, K: Sink, L: Sink, G: Gate + S
     log: &mut L,
     gate: &G,
 ) -> u8
-    ensures { IsServed F.holds F.faults files.old files.new
+    ensures { IsServedCall F.holds F.faults files.old files.new
         (map string_bytes words.now) K.has K.faults out.old out.new L.has L.faults log.old log.new result }
 {
     one_owed::<F>();

@@ -22,7 +22,7 @@ use Rattle.instrument.specs.Fits.{slots_for}
 use Rattle.instrument.specs.Placements.{is_leaving, is_mini_room_of, sites_of, slots_taken, is_over, with_instrument, with_slots}
 use Rattle.instrument.specs.declared.instrument.Instrument.{Instrument}
 use Rattle.instrument.specs.Scenes as scenes
-use Rattle.instrument.specs.Scenes.{Scene, Told, admits, IsPlanFor, Admits}
+use Rattle.instrument.specs.Scenes.{InstrumentScene, Told, admits, IsPlanFor, Admits}
 use Rattle.instrument.specs.declared.number.Refused.{Refused}
 use Rattle.instrument.specs.declared.number.Refused.TheVariants.{OverCost, TooMany, NoSlot}
 use Rattle.instrument.specs.declared.number.State.TheVariants.{Placing, Armed}
@@ -119,7 +119,7 @@ news_hold n slots (b ∷ ks) (s ∷ sites) st k h c a i e =
 
 -- ---- an admission
 
-module _ (first : Core) (s : Scene) (es : List Event) (w : Whole first s es) (plan : Plan) (ok : IsPlanFor s.core.program plan) where
+module _ (first : Core) (s : InstrumentScene) (es : List Event) (w : Whole first s es) (plan : Plan) (ok : IsPlanFor s.core.program plan) where
   -- a refused one leaves all as it is
   refused : (r : Refused) → Whole first (admits plan (Err r) s).scene (es ++ (admits plan (Err r) s).events)
   refused r = subst (λ l. Whole first s l) (sym (append_nil es)) w

@@ -7,18 +7,18 @@ use Rattle.pn_types.specs.declared.placed.PlacedSite.{PlacedSite}
 use Rattle.pn_types.specs.declared.plan.Plan.{Plan}
 use Rattle.pn_types.specs.declared.plan.Site.{Site}
 use Rattle.machine.specs.Cores.{In, Core}
-use Rattle.machine.specs.Effects.{after}
+use Rattle.machine.specs.Effects.{after_event}
 use Rattle.machine.specs.Events as events
 use Rattle.machine.specs.Events.{Event, May, MayArm}
 use Rattle.machine.specs.Instruments.{InForce}
 use Rattle.machine.proofs.Lists.{in_map, map_in, find_gives}
-use Rattle.instrument.specs.Placements.{is_leaving, with_state, armed}
+use Rattle.instrument.specs.Placements.{is_leaving, with_state, with_armed}
 use Rattle.instrument.specs.declared.instrument.Instrument.{Instrument}
 use Rattle.instrument.specs.Placements as placements
 use Rattle.tramp_spec.specs.Slots as slots
 use Rattle.machine.specs.Instruments as instruments
 use Rattle.instrument.specs.Scenes as scenes
-use Rattle.instrument.specs.Scenes.{Scene, told, arms, CanArm, IsTurnOrSample, Happens, Arms}
+use Rattle.instrument.specs.Scenes.{InstrumentScene, scene_told, arms, CanArm, IsTurnOrSample, Happens, Arms}
 use Rattle.instrument.specs.declared.number.State as states
 use Rattle.instrument.specs.declared.number.State.TheVariants.{Placing, Armed}
 use Rattle.instrument.proofs.Steps.{State, Happened, LeavesBlocks}
@@ -49,7 +49,7 @@ lets_any i (events.LinkPoint p) t = absurd t
 lets_any i (events.UnlinkPoint p) t = absurd t
 lets_any i (events.Free p) t = absurd t
 
-pub happens_whole : (first : Core) (s : Scene) (es : List Event) (e : Event) → Whole first s es → IsTurnOrSample e → May s.core e → Whole first (scenes.does (Happens e) s).scene (es ++ (scenes.does (Happens e) s).events)
+pub happens_whole : (first : Core) (s : InstrumentScene) (es : List Event) (e : Event) → Whole first s es → IsTurnOrSample e → May s.core e → Whole first (scenes.does (Happens e) s).scene (es ++ (scenes.does (Happens e) s).events)
 happens_whole first s es e w t may =
     by_step first s es w (Happened e) (scenes.does (Happens e) s) tt (leaves_blocks e t, may) (λ i h k. lets_any i.placed e t)
     (record { state = refl; events = refl; program = refl; count = refl; plans = refl; sub = λ i h. h; here = λ i h x hx b k. h })
@@ -78,9 +78,9 @@ carried_state st plans n q i c = record {
 pub found_at : (instruments : List Instrument) (n : ℕ) (i : Instrument) → find (λ i. i.no == n) instruments ≡ Some i → In i instruments × (i.no ≡ n)
 found_at instruments n i e = let g = find_gives (λ (i : Instrument). i.no == n) instruments i e in (g.0, eqb-true i.no n g.1)
 
-module _ (first : Core) (s : Scene) (es : List Event) (w : Whole first s es) (i : Instrument) (hi : In i s.placer.instruments) (placing : i.state ≡ Placing) (may : MayArm s.core i.placed) where
-  abbrev behind : Scene
-  behind = record { core = after s.core (events.Arm i.placed); placer = s.placer; plans = s.plans }
+module _ (first : Core) (s : InstrumentScene) (es : List Event) (w : Whole first s es) (i : Instrument) (hi : In i s.placer.instruments) (placing : i.state ≡ Placing) (may : MayArm s.core i.placed) where
+  abbrev behind : InstrumentScene
+  behind = record { core = after_event s.core (events.Arm i.placed); placer = s.placer; plans = s.plans }
 
   abbrev more : List Event
   more = es ++ events.Arm i.placed ∷ []
@@ -88,9 +88,9 @@ module _ (first : Core) (s : Scene) (es : List Event) (w : Whole first s es) (i 
   not_armed : (j : Instrument) → j.state ≡ Armed → i.no ≡ j.no → In j s.placer.instruments → ⊥
   not_armed j e n h = let q = ap (λ (u : Instrument). u.state) (w.orderly.single i j hi h n) in absurd cc
 
-  w1 : Whole first (record { core = after s.core (events.Arm i.placed); placer = s.placer; plans = s.plans }) (es ++ events.Arm i.placed ∷ [])
+  w1 : Whole first (record { core = after_event s.core (events.Arm i.placed); placer = s.placer; plans = s.plans }) (es ++ events.Arm i.placed ∷ [])
   w1 =
-      by_step first s es w (Happened (events.Arm i.placed)) (told (events.Arm i.placed ∷ []) (after s.core (events.Arm i.placed)) s.placer s) tt (tt, may)
+      by_step first s es w (Happened (events.Arm i.placed)) (scene_told (events.Arm i.placed ∷ []) (after_event s.core (events.Arm i.placed)) s.placer s) tt (tt, may)
       (λ j h e. w.orderly.slots j i h hi (λ n. not_armed j e (sym n) h))
       (record { state = refl; events = refl; program = refl; count = refl; plans = refl; sub = λ j h. h; here = λ j h x hx b k. h })
 
@@ -147,13 +147,13 @@ module _ (first : Core) (s : Scene) (es : List Event) (w : Whole first s es) (i 
   linked_i : AllLinked s.core i.placed.sites
   linked_i p h = let z = may.linked p h in linked_site s.core w.kept.reached p.at p.mini z.0 z.1
 
-  pub arm_whole : Whole first (record { core = after s.core (events.Arm i.placed); placer = armed i.no s.placer; plans = s.plans }) (es ++ events.Arm i.placed ∷ [])
+  pub arm_whole : Whole first (record { core = after_event s.core (events.Arm i.placed); placer = with_armed i.no s.placer; plans = s.plans }) (es ++ events.Arm i.placed ∷ [])
   arm_whole = record {
     kept = w1.kept;
     neat = w1.neat;
     program = w1.program;
     orderly = orderly;
-    linked = each (λ j. AllLinked (after s.core (events.Arm i.placed)) j.placed.sites) (λ p h. linked_still s.core (after s.core (events.Arm i.placed)) p.at p.mini refl (linked_i p h)) (λ j h e. w1.linked j h e);
+    linked = each (λ j. AllLinked (after_event s.core (events.Arm i.placed)) j.placed.sites) (λ p h. linked_still s.core (after_event s.core (events.Arm i.placed)) p.at p.mini refl (linked_i p h)) (λ j h e. w1.linked j h e);
     legal = w1.legal;
     core = w1.core;
     force = each (λ j. InForce j.placed (es ++ events.Arm i.placed ∷ []) first)
@@ -161,7 +161,7 @@ module _ (first : Core) (s : Scene) (es : List Event) (w : Whole first s es) (i 
         (λ j h e. w1.force j h e);
   }
 
-pub arms_whole : (first : Core) (s : Scene) (es : List Event) (n : ℕ) → Whole first s es → CanArm n s → Whole first (scenes.does (Arms n) s).scene (es ++ (scenes.does (Arms n) s).events)
+pub arms_whole : (first : Core) (s : InstrumentScene) (es : List Event) (n : ℕ) → Whole first s es → CanArm n s → Whole first (scenes.does (Arms n) s).scene (es ++ (scenes.does (Arms n) s).events)
 arms_whole first s es n w c =
     let g = found_at s.placer.instruments n c.instrument c.is in
     subst (λ o. Whole first (arms o s).scene (es ++ (arms o s).events)) (sym c.is) (arm_whole first s es w c.instrument g.0 c.placing c.may)

@@ -12,7 +12,7 @@ use Rattle.tramp_spec.specs.Marks.{own, enter, tool}
 use Rattle.tramp_spec.specs.declared.block.Block.{Block}
 use Rattle.tramp_spec.specs.declared.mark.MarkedWord.{MarkedWord}
 use Rattle.machine.specs.Cores.{In, Row, Status, Live, Retired, Core, is_current}
-use Rattle.machine.specs.Effects.{with_status, at_set, retired_at, is_kept, mini_linked, mini_unlinked, point_linked, point_unlinked, row_of, after}
+use Rattle.machine.specs.Effects.{with_status, at_set, retired_at, is_kept, mini_linked, mini_unlinked, point_linked, point_unlinked, row_of, after_event}
 use Rattle.machine.specs.Events.{Apart, current_base, row_at, link_at, next_of}
 use Rattle.machine.specs.Instruments.{words_at, body_in, body_of_block}
 use Rattle.machine.specs.Reached.{IsReached}
@@ -90,14 +90,14 @@ module _ (c : Core) (v : IsReached c) (fr : Fresh) (t : Tied c.code c.rows fr) w
       let k = base_of c v p b e in
       subst (λ q. (w : ℕ) × (program_word c.program q ≡ Some w) × (q + 4 ≤ tool_at c.program)) k.3 (point_low c v fr t b k.1 k.2)
 
-  stays_base : (b : Block) → Good c.program (WriteBase b) → AwayFrom c v fr t (WriteBase b) → Stays c (after c (event_of c (WriteBase b)))
+  stays_base : (b : Block) → Good c.program (WriteBase b) → AwayFrom c v fr t (WriteBase b) → Stays c (after_event c (event_of c (WriteBase b)))
   stays_base b g away r h m = ⊎_elim
       (λ (i : In r c.rows). (r, i, m, refl, body_put c.code b.at b.words r (away r (block_row b true) i (inl refl))))
       (λ (i : r ≡ row_of b). absurd (true≢false (sym g.base ∙ (sym (ap (λ (u : Row). u.base) i) ∙ m))))
       (in_snoc c.rows (row_of b) r h)
 
   -- where no mini block is written
-  pub stays_entry : (e : Entry) → Good c.program e → Ok (stage (filter is_now c.rows) fr) e → AwayFrom c v fr t e → ((b : Block) → e ≡ WriteMini b → ⊥) → Stays c (after c (event_of c e))
+  pub stays_entry : (e : Entry) → Good c.program e → Ok (stage (filter is_now c.rows) fr) e → AwayFrom c v fr t e → ((b : Block) → e ≡ WriteMini b → ⊥) → Stays c (after_event c (event_of c e))
   stays_entry (WriteBase b) g k a n = stays_base b g a
   stays_entry (WriteMini b) g k a n = absurd (n b refl)
   stays_entry (LinkMini p m) g k a n =
@@ -122,8 +122,8 @@ module _ (c : Core) (v : IsReached c) (fr : Fresh) (t : Tied c.code c.rows fr) w
   stays_entry (Free p) g k a n = λ r h m. let z = in_filter (is_kept p) c.rows r h in (r, z.0, m, refl, refl)
 
   -- where one is written, it has its body
-  pub stays_mini : (b : Block) → GoodMini c.program b → AwayFrom c v fr t (WriteMini b) → (r : Row) → In r (after c (event_of c (WriteMini b))).rows → r.base ≡ false
-      → ((r.at ≡ b.at) × (body_in (after c (event_of c (WriteMini b))).code r ≡ body_of_block b)) ⊎ ((o : Row) × In o c.rows × (o.base ≡ false) × (o.at ≡ r.at) × (body_in (after c (event_of c (WriteMini b))).code r ≡ body_in c.code o))
+  pub stays_mini : (b : Block) → GoodMini c.program b → AwayFrom c v fr t (WriteMini b) → (r : Row) → In r (after_event c (event_of c (WriteMini b))).rows → r.base ≡ false
+      → ((r.at ≡ b.at) × (body_in (after_event c (event_of c (WriteMini b))).code r ≡ body_of_block b)) ⊎ ((o : Row) × In o c.rows × (o.base ≡ false) × (o.at ≡ r.at) × (body_in (after_event c (event_of c (WriteMini b))).code r ≡ body_in c.code o))
   stays_mini b g away r h m =
       let to = head_of c.code (current_base c.rows b.point) in
       let l = leading_len b (head_of c.code (current_base c.rows b.point)) g.some in

@@ -7,7 +7,7 @@ use Rattle.rv_word.specs.Plain.{program_word}
 use Rattle.tramp_spec.specs.Jumps.{jump_word}
 use Rattle.tramp_spec.specs.Marks.{own, enter}
 use Rattle.machine.specs.Cores.{In, Row, Written, Live, Retired, Core, is_current}
-use Rattle.machine.specs.Effects.{with_status, at_set, retired_at, is_kept, point_linked, point_unlinked, mini_linked, mini_unlinked, after}
+use Rattle.machine.specs.Effects.{with_status, at_set, retired_at, is_kept, point_linked, point_unlinked, mini_linked, mini_unlinked, after_event}
 use Rattle.machine.specs.Events as events
 use Rattle.machine.specs.Events.{May, current_base, row_at, is_linked}
 use Rattle.machine.specs.Kept.{IsOpen}
@@ -184,7 +184,7 @@ module _ (c : Core) (v : IsReached c) (fr : Fresh) (t : Tied c.code c.rows fr) w
   kept_room : (p : ℕ) (x : Room) (r : Row) → Of x r → is_kept p r ≡ true → stays p x ≡ true
   kept_room p x r f e = ap (λ w. not ((w == p) && is_unlinked x.hold)) f.point ∙ (ap (λ w. not ((r.point == p) && w)) f.unlinked ∙ e)
 
-  pub released : (p : ℕ) → May c (events.Free p) → May c (events.Free p) × Leads_to c (after c (events.Free p)) fr (Free p)
+  pub released : (p : ℕ) → May c (events.Free p) → May c (events.Free p) × Leads_to c (after_event c (events.Free p)) fr (Free p)
   released p may = (
     may,
     record {
@@ -206,7 +206,7 @@ module _ (c : Core) (v : IsReached c) (fr : Fresh) (t : Tied c.code c.rows fr) w
   -- ---- all entries
 
   pub entry_done : (e : Entry) → Good c.program e → Ok (stage (filter is_now c.rows) fr) e → AwayFrom c v fr t e → ((p : ℕ) → e ≡ Free p → May c (events.Free p))
-      → May c (event_of c e) × Leads_to c (after c (event_of c e)) fr e
+      → May c (event_of c e) × Leads_to c (after_event c (event_of c e)) fr e
   entry_done (WriteBase b) g k a f = put_base c v fr t b g k a
   entry_done (WriteMini b) g k a f = put_mini c v fr t b g k a
   entry_done (LinkMini p m) g k a f =

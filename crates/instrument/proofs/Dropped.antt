@@ -6,7 +6,7 @@ use Rattle.std.proofs.lemmas.Bool.{true≢false, and_from, and_parts}
 use Rattle.std.proofs.lemmas.List.{length-append, length-map}
 use Rattle.std.proofs.lemmas.Option.{none-some}
 use Rattle.bucket_chains.specs.Entries.{bucket_at, bucket_of, IsFirst}
-use Rattle.bucket_chains.specs.Left.{left, buckets_of}
+use Rattle.bucket_chains.specs.Left.{present_entries, buckets_of}
 use Rattle.bucket_chains.proofs.Nexts.{IsNext, from_next, is_next}
 use Rattle.bucket_chains.proofs.Skips.{Follows, entry_first, skips_to}
 use Rattle.bucket_chains.proofs.Walks.{left_map}
@@ -27,13 +27,13 @@ use Rattle.instrument.proofs.Sites.{distinct_without, entries_there, held_withou
 
 -- ---- the rooms by place and the rooms that are left
 
-removed_left : (o : Option Room) (p : ℕ) (places : List (Option Room)) → left (places_left o p places) ≡ rooms_left o p (left places)
+removed_left : (o : Option Room) (p : ℕ) (places : List (Option Room)) → present_entries (places_left o p places) ≡ rooms_left o p (present_entries places)
 removed_left (Some other) p places = refl
 removed_left None p places = left_map (with_hold (base_leaves p)) places
 
-pub dropped_left : (x : Room) (rooms : RoomPlaces) (agenda : AgendaData) → left (places_without x rooms.places) ≡ (without_site x (book_of rooms agenda)).rooms
+pub dropped_left : (x : Room) (rooms : RoomPlaces) (agenda : AgendaData) → present_entries (places_without x rooms.places) ≡ (without_site x (book_of rooms agenda)).rooms
 dropped_left x rooms agenda =
-    removed_left (find (is_mini_of x.point) (left (map (option_map (with_hold (mini_leaves x.at))) rooms.places))) x.point (map (option_map (with_hold (mini_leaves x.at))) rooms.places)
+    removed_left (find (is_mini_of x.point) (present_entries (map (option_map (with_hold (mini_leaves x.at))) rooms.places))) x.point (map (option_map (with_hold (mini_leaves x.at))) rooms.places)
     ∙ ap (λ rs. rooms_left (find (is_mini_of x.point) rs) x.point rs) (left_map (with_hold (mini_leaves x.at)) rooms.places)
 
 -- ---- the entries of a site
@@ -52,7 +52,7 @@ point_leaves None b p m h = refl
 
 -- ---- the shape of the places stays
 
-shape_map : (h : Room → Hold) (i : ℕ) (es : List (Option Room)) → length (left (take i (map (option_map (with_hold h)) es))) ≡ length (left (take i es))
+shape_map : (h : Room → Hold) (i : ℕ) (es : List (Option Room)) → length (present_entries (take i (map (option_map (with_hold h)) es))) ≡ length (present_entries (take i es))
 shape_map h zero es = refl
 shape_map h (suc i) [] = refl
 shape_map h (suc i) (None ∷ es) = shape_map h i es
@@ -63,7 +63,7 @@ owners_map h [] = refl
 owners_map h (None ∷ es) = ap (λ l. None ∷ l) (owners_map h es)
 owners_map h (Some x ∷ es) = ap (λ l. Some (bucket_of (owner_key x)) ∷ l) (owners_map h es)
 
-shape_left : (o : Option Room) (p i : ℕ) (es : List (Option Room)) → length (left (take i (places_left o p es))) ≡ length (left (take i es))
+shape_left : (o : Option Room) (p i : ℕ) (es : List (Option Room)) → length (present_entries (take i (places_left o p es))) ≡ length (present_entries (take i es))
 shape_left (Some other) p i es = refl
 shape_left None p i es = shape_map (base_leaves p) i es
 
@@ -75,46 +75,46 @@ len_left : (o : Option Room) (p : ℕ) (es : List (Option Room)) → length (pla
 len_left (Some other) p es = refl
 len_left None p es = length-map es (option_map (with_hold (base_leaves p)))
 
-shape_without : (x : Room) (i : ℕ) (es : List (Option Room)) → length (left (take i (places_without x es))) ≡ length (left (take i es))
+shape_without : (x : Room) (i : ℕ) (es : List (Option Room)) → length (present_entries (take i (places_without x es))) ≡ length (present_entries (take i es))
 shape_without x i es =
-    shape_left (find (is_mini_of x.point) (left (map (option_map (with_hold (mini_leaves x.at))) es))) x.point i (map (option_map (with_hold (mini_leaves x.at))) es)
+    shape_left (find (is_mini_of x.point) (present_entries (map (option_map (with_hold (mini_leaves x.at))) es))) x.point i (map (option_map (with_hold (mini_leaves x.at))) es)
     ∙ shape_map (mini_leaves x.at) i es
 
 pub owners_without : (x : Room) (es : List (Option Room)) → buckets_of owner_key (places_without x es) ≡ buckets_of owner_key es
 owners_without x es =
-    owners_left (find (is_mini_of x.point) (left (map (option_map (with_hold (mini_leaves x.at))) es))) x.point (map (option_map (with_hold (mini_leaves x.at))) es)
+    owners_left (find (is_mini_of x.point) (present_entries (map (option_map (with_hold (mini_leaves x.at))) es))) x.point (map (option_map (with_hold (mini_leaves x.at))) es)
     ∙ owners_map (mini_leaves x.at) es
 
 pub len_without : (x : Room) (es : List (Option Room)) → length (places_without x es) ≡ length es
 len_without x es =
-    len_left (find (is_mini_of x.point) (left (map (option_map (with_hold (mini_leaves x.at))) es))) x.point (map (option_map (with_hold (mini_leaves x.at))) es)
+    len_left (find (is_mini_of x.point) (present_entries (map (option_map (with_hold (mini_leaves x.at))) es))) x.point (map (option_map (with_hold (mini_leaves x.at))) es)
     ∙ length-map es (option_map (with_hold (mini_leaves x.at)))
 
 -- ---- the places of the rooms that are left
 
 -- those after a place
-rank_drop : (i : ℕ) (es : List (Option Room)) → drop (length (left (take i es))) (left es) ≡ left (drop i es)
+rank_drop : (i : ℕ) (es : List (Option Room)) → drop (length (present_entries (take i es))) (present_entries es) ≡ present_entries (drop i es)
 rank_drop zero es = refl
 rank_drop (suc i) [] = refl
 rank_drop (suc i) (None ∷ es) = rank_drop i es
 rank_drop (suc i) (Some x ∷ es) = rank_drop i es
 
-rank_next : (i : ℕ) (es : List (Option Room)) (x : Room) → get_or es i None ≡ Some x → length (left (take (suc i) es)) ≡ length (left (take i es)) + 1
+rank_next : (i : ℕ) (es : List (Option Room)) (x : Room) → get_or es i None ≡ Some x → length (present_entries (take (suc i) es)) ≡ length (present_entries (take i es)) + 1
 rank_next i [] x h = absurd (none-some x h)
 rank_next zero (None ∷ es) x h = absurd (none-some x h)
 rank_next zero (Some y ∷ es) x h = refl
 rank_next (suc i) (None ∷ es) x h = rank_next i es x h
 rank_next (suc i) (Some y ∷ es) x h = omega (arith, rank_next i es x h)
 
-rank_room : (i : ℕ) (es : List (Option Room)) (x d : Room) → get_or es i None ≡ Some x → x ≡ get_or (left es) (length (left (take i es))) d
+rank_room : (i : ℕ) (es : List (Option Room)) (x d : Room) → get_or es i None ≡ Some x → x ≡ get_or (present_entries es) (length (present_entries (take i es))) d
 rank_room i [] x d h = absurd (none-some x h)
 rank_room zero (None ∷ es) x d h = absurd (none-some x h)
 rank_room zero (Some y ∷ es) x d h = cc
 rank_room (suc i) (None ∷ es) x d h = rank_room i es x d h
 rank_room (suc i) (Some y ∷ es) x d h = rank_room i es x d h
 
-rank_within : (i : ℕ) (es : List (Option Room)) (x : Room) → get_or es i None ≡ Some x → length (left (take i es)) < length (left es)
-rank_within i es x h = omega (arith, rank_next i es x h, ap length (left_parts es (suc i)), length-append (left (take (suc i) es)) (left (drop (suc i) es)))
+rank_within : (i : ℕ) (es : List (Option Room)) (x : Room) → get_or es i None ≡ Some x → length (present_entries (take i es)) < length (present_entries es)
+rank_within i es x h = omega (arith, rank_next i es x h, ap length (left_parts es (suc i)), length-append (present_entries (take (suc i) es)) (present_entries (drop (suc i) es)))
 
 -- ---- the walk
 
@@ -125,20 +125,20 @@ site_own n x e =
 
 module _ (n : ℕ) (rooms₀ : RoomPlaces) (agenda₀ : AgendaData) where
   abbrev pub all_sites : Book
-  all_sites = without_sites (filter (is_site_of n) (left rooms₀.places)) (book_of rooms₀ agenda₀)
+  all_sites = without_sites (filter (is_site_of n) (present_entries rooms₀.places)) (book_of rooms₀ agenda₀)
 
   -- the sites before the next place were dropped
   pub record IsDropping (rooms : RoomPlaces) (agenda : AgendaData) (next : Option ℕ) : Type 0 where
     pub at : IsNext (bucket_of n) (buckets_of owner_key rooms.places) next
-    pub book : without_sites (filter (is_site_of n) (left (from_next next rooms.places))) (book_of rooms agenda) ≡ all_sites
-    pub distinct : AreDistinct (left rooms.places)
+    pub book : without_sites (filter (is_site_of n) (present_entries (from_next next rooms.places))) (book_of rooms agenda) ≡ all_sites
+    pub distinct : AreDistinct (present_entries rooms.places)
     pub spare : rooms.spare ≡ rooms₀.spare
-    pub entries : agenda₀.room + for_drops (left rooms.places) ≤ agenda.room + for_drops (left rooms₀.places)
+    pub entries : agenda₀.room + for_drops (present_entries rooms.places) ≤ agenda.room + for_drops (present_entries rooms₀.places)
 
-  sites_to : (es : List (Option Room)) (from : ℕ) (r : Option ℕ) → IsFirst (bucket_of n) from (buckets_of owner_key es) r → filter (is_site_of n) (left (from_next r es)) ≡ filter (is_site_of n) (left (drop from es))
+  sites_to : (es : List (Option Room)) (from : ℕ) (r : Option ℕ) → IsFirst (bucket_of n) from (buckets_of owner_key es) r → filter (is_site_of n) (present_entries (from_next r es)) ≡ filter (is_site_of n) (present_entries (drop from es))
   sites_to es from r h = skips_to owner_key (bucket_of n) (is_site_of n) (site_own n) (filter (is_site_of n)) (filter_skips (is_site_of n)) es from r h
 
-  pub dropping_begun : (next : Option ℕ) → IsFirst (bucket_of n) 0 (buckets_of owner_key rooms₀.places) next → AreDistinct (left rooms₀.places) → IsDropping rooms₀ agenda₀ next
+  pub dropping_begun : (next : Option ℕ) → IsFirst (bucket_of n) 0 (buckets_of owner_key rooms₀.places) next → AreDistinct (present_entries rooms₀.places) → IsDropping rooms₀ agenda₀ next
   dropping_begun next h distinct = record {
     at = is_next (bucket_of n) 0 (buckets_of owner_key rooms₀.places) next h;
     book = ap (λ l. without_sites l (book_of rooms₀ agenda₀)) (sites_to rooms₀.places 0 next h);
@@ -151,27 +151,27 @@ module _ (n : ℕ) (rooms₀ : RoomPlaces) (agenda₀ : AgendaData) where
     at_here : bucket_at (buckets_of owner_key rooms.places) place ≡ Some (bucket_of n)
     at_here = subst (IsNext (bucket_of n) (buckets_of owner_key rooms.places)) is dropping.at
 
-    book_here : without_sites (filter (is_site_of n) (left (drop place rooms.places))) (book_of rooms agenda) ≡ all_sites
-    book_here = subst (λ o. without_sites (filter (is_site_of n) (left (from_next o rooms.places))) (book_of rooms agenda) ≡ all_sites) is dropping.book
+    book_here : without_sites (filter (is_site_of n) (present_entries (drop place rooms.places))) (book_of rooms agenda) ≡ all_sites
+    book_here = subst (λ o. without_sites (filter (is_site_of n) (present_entries (from_next o rooms.places))) (book_of rooms agenda) ≡ all_sites) is dropping.book
 
     -- one that is no site is passed
     pub dropping_on : (r : Option ℕ) → Follows (buckets_of owner_key rooms.places) place r → is_site_of n x ≡ false → IsDropping rooms agenda r
     dropping_on r h fails = record {
       at = is_next (bucket_of n) (place + 1) (buckets_of owner_key rooms.places) r (h (bucket_of n) at_here);
-      book = ap (λ l. without_sites l (book_of rooms agenda)) (sites_to rooms.places (place + 1) r (h (bucket_of n) at_here) ∙ sym (ap (filter (is_site_of n)) (entry_first rooms.places place x here) ∙ filter_skips (is_site_of n) x (left (drop (place + 1) rooms.places)) fails)) ∙ book_here;
+      book = ap (λ l. without_sites l (book_of rooms agenda)) (sites_to rooms.places (place + 1) r (h (bucket_of n) at_here) ∙ sym (ap (filter (is_site_of n)) (entry_first rooms.places place x here) ∙ filter_skips (is_site_of n) x (present_entries (drop (place + 1) rooms.places)) fails)) ∙ book_here;
       distinct = dropping.distinct;
       spare = dropping.spare;
       entries = dropping.entries;
     }
 
     abbrev k : ℕ
-    k = length (left (take place rooms.places))
+    k = length (present_entries (take place rooms.places))
 
-    pub room_in : In x (left rooms.places)
-    room_in = in_at (left rooms.places) k x (rank_within place rooms.places x here) (rank_room place rooms.places x x here)
+    pub room_in : In x (present_entries rooms.places)
+    room_in = in_at (present_entries rooms.places) k x (rank_within place rooms.places x here) (rank_room place rooms.places x x here)
 
-    pub entries_enough : for_drops (left rooms₀.places) ≤ agenda₀.room → is_site_of n x ≡ true → 3 ≤ agenda.room
-    entries_enough enough s = omega (arith, enough, dropping.entries, entries_there n (left rooms.places) x room_in s)
+    pub entries_enough : for_drops (present_entries rooms₀.places) ≤ agenda₀.room → is_site_of n x ≡ true → 3 ≤ agenda.room
+    entries_enough enough s = omega (arith, enough, dropping.entries, entries_there n (present_entries rooms.places) x room_in s)
 
     -- a site is dropped
     pub dropping_more : (rooms' : RoomPlaces) (agenda' : AgendaData) (r : Option ℕ) → is_site_of n x ≡ true
@@ -181,13 +181,13 @@ module _ (n : ℕ) (rooms₀ : RoomPlaces) (agenda₀ : AgendaData) where
         let places : rooms'.places ≡ places_without x rooms.places = ap (λ (z : RoomPlaces). z.places) e in
         let owners = ap (buckets_of owner_key) places ∙ owners_without x rooms.places in
         let first = h (bucket_of n) (subst (λ bs. bucket_at bs place ≡ Some (bucket_of n)) (sym owners) at_here) in
-        let left_is : left rooms'.places ≡ (without_site x (book_of rooms agenda)).rooms = ap left places ∙ dropped_left x rooms agenda in
+        let left_is : present_entries rooms'.places ≡ (without_site x (book_of rooms agenda)).rooms = ap present_entries places ∙ dropped_left x rooms agenda in
         let book : book_of rooms' agenda' ≡ without_site x (book_of rooms agenda) = ap (λ l. record { rooms = l; agenda = agenda'.entries }) left_is ∙ ap (λ l. record { rooms = (without_site x (book_of rooms agenda)).rooms; agenda = l }) a in
         let dropped = site_dropped n (book_of rooms agenda) k x (rank_within place rooms.places x here) (rank_room place rooms.places x x here) dropping.distinct s in
-        let rank : length (left (take (place + 1) rooms'.places)) ≡ k + 1 =
-        ap (λ i. length (left (take i rooms'.places))) (add-one place) ∙ ap (λ l. length (left (take (suc place) l))) places ∙ shape_without x (suc place) rooms.places ∙ rank_next place rooms.places x here in
-        let rest : left (drop (place + 1) rooms'.places) ≡ drop (k + 1) (without_site x (book_of rooms agenda)).rooms =
-        sym (rank_drop (place + 1) rooms'.places) ∙ ap (λ i. drop i (left rooms'.places)) rank ∙ ap (drop (k + 1)) left_is in
+        let rank : length (present_entries (take (place + 1) rooms'.places)) ≡ k + 1 =
+        ap (λ i. length (present_entries (take i rooms'.places))) (add-one place) ∙ ap (λ l. length (present_entries (take (suc place) l))) places ∙ shape_without x (suc place) rooms.places ∙ rank_next place rooms.places x here in
+        let rest : present_entries (drop (place + 1) rooms'.places) ≡ drop (k + 1) (without_site x (book_of rooms agenda)).rooms =
+        sym (rank_drop (place + 1) rooms'.places) ∙ ap (λ i. drop i (present_entries rooms'.places)) rank ∙ ap (drop (k + 1)) left_is in
         record {
           at = is_next (bucket_of n) (place + 1) (buckets_of owner_key rooms'.places) r first;
           book = ap (λ l. without_sites l (book_of rooms' agenda')) (sites_to rooms'.places (place + 1) r first ∙ ap (filter (is_site_of n)) rest)
@@ -201,4 +201,4 @@ module _ (n : ℕ) (rooms₀ : RoomPlaces) (agenda₀ : AgendaData) where
         }
 
   pub dropping_over : (rooms : RoomPlaces) (agenda : AgendaData) (next : Option ℕ) → next ≡ None → IsDropping rooms agenda next → book_of rooms agenda ≡ all_sites
-  dropping_over rooms agenda next is dropping = subst (λ o. without_sites (filter (is_site_of n) (left (from_next o rooms.places))) (book_of rooms agenda) ≡ all_sites) is dropping.book
+  dropping_over rooms agenda next is dropping = subst (λ o. without_sites (filter (is_site_of n) (present_entries (from_next o rooms.places))) (book_of rooms agenda) ≡ all_sites) is dropping.book

@@ -18,7 +18,7 @@ use Rattle.instrument.specs.Placements as placements
 use Rattle.instrument.specs.Placements.{is_leaving, is_site_of, is_here, with_state, without_sites}
 use Rattle.instrument.specs.declared.instrument.Instrument.{Instrument}
 use Rattle.instrument.specs.Scenes as scenes
-use Rattle.instrument.specs.Scenes.{Scene, Drops}
+use Rattle.instrument.specs.Scenes.{InstrumentScene, Drops}
 use Rattle.instrument.specs.declared.number.State.TheVariants.{Armed, Leaving}
 use Rattle.instrument.specs.declared.room.Room.{Room}
 use Rattle.instrument.proofs.Folds.{append_nil}
@@ -65,7 +65,7 @@ holds_drops (y ∷ ys) st k n c m body x h =
     holds_drops ys (does (Dropped y) st).state (step_keeps (Dropped y) st k c.0).kept (neat_step (Dropped y) st k c.0 n) c.1 m body (room_stays y st m x)
     (step_holds (Dropped y) st k n c.0 m body x.0 x.1 x.2 h)
 
-module _ (first : Core) (s : Scene) (es : List Event) (w : Whole first s es) (n : ℕ) where
+module _ (first : Core) (s : InstrumentScene) (es : List Event) (w : Whole first s es) (n : ℕ) where
   abbrev st : State
   st = record { core = s.core; book = s.placer.book }
 

@@ -7,7 +7,7 @@ use Rattle.rv_word.specs.Plain.{program_word}
 use Rattle.tramp_spec.specs.Jumps.{jump_word}
 use Rattle.tramp_spec.specs.Marks.{own, enter}
 use Rattle.machine.specs.Cores.{In, Row, Live, Core, is_current}
-use Rattle.machine.specs.Effects.{with_status, at_set, after}
+use Rattle.machine.specs.Effects.{with_status, at_set, after_event}
 use Rattle.machine.specs.Events as events
 use Rattle.machine.specs.Events.{Event, May, HasMini, IsEntered}
 use Rattle.tramp_spec.specs.declared.mark.MarkedWord.{MarkedWord}
@@ -162,11 +162,11 @@ module _ (p m : ℕ) (c : Core) (v : IsReached c) (fr : Fresh) (t : Tied c.code 
       let n = (r.1).now in
       let y = l.mini in
       let z = l.base in
-      let yi = in_filter is_now (after c (event_of c e)).rows y.row (subst (λ w. In y.row w) (sym n) (passed e (stage (filter is_now c.rows) fr) y.row (live_now y.row y.listed y.is) y.is (q.1 y.row y.listed y.mini y.at))) in
-      let zi = in_filter is_now (after c (event_of c e)).rows z.0 (subst (λ w. In z.0 w) (sym n) (passed e (stage (filter is_now c.rows) fr) z.0 (live_now z.0 z.1 z.4) z.4 (q.2 z.0 z.1 z.2 z.3))) in
+      let yi = in_filter is_now (after_event c (event_of c e)).rows y.row (subst (λ w. In y.row w) (sym n) (passed e (stage (filter is_now c.rows) fr) y.row (live_now y.row y.listed y.is) y.is (q.1 y.row y.listed y.mini y.at))) in
+      let zi = in_filter is_now (after_event c (event_of c e)).rows z.0 (subst (λ w. In z.0 w) (sym n) (passed e (stage (filter is_now c.rows) fr) z.0 (live_now z.0 z.1 z.4) z.4 (q.2 z.0 z.1 z.2 z.3))) in
       record {
         events = (subst (λ w. Spared p m (event_of w e)) (sym ec) q.0, tt);
-        linked = subst (λ w. LinkedSite (after w (event_of w e)) p m) (sym ec) (record {
+        linked = subst (λ w. LinkedSite (after_event w (event_of w e)) p m) (sym ec) (record {
           mini = record { row = y.row; listed = yi.0; mini = y.mini; point = y.point; at = y.at; is = y.is };
           base = (z.0, zi.0, z.2, z.3, z.4);
         });
@@ -213,7 +213,7 @@ linked_still c d p m e l =
     }
 
 pub step_spares : (p m : ℕ) (a : Step) (st : State) → Kept st → Can a st → LinkedSite st.core p m → HeldSite st.book.rooms p m → Leaves m a → Sparing p m (does a st)
-step_spares p m (Happened e) st k can l h n = record { events = (spares_still p m e can.0, tt); linked = linked_still st.core (after st.core e) p m (still st.core e can.0).rows l; held = h }
+step_spares p m (Happened e) st k can l h n = record { events = (spares_still p m e can.0, tt); linked = linked_still st.core (after_event st.core e) p m (still st.core e can.0).rows l; held = h }
 step_spares p m (Admitted owner b) st k can l h n =
     record { events = tt; linked = l; held = record { x = h.x; is_in = append_left st.book.rooms (rooms_of b.base owner b.mini) h.x h.is_in; mini = h.mini; point = h.point; at = h.at; held = h.held } }
 step_spares p m (Dropped x) st k can l h n =

@@ -10,7 +10,7 @@ use Rattle.machine.proofs.Lists.{in_filter, in_map, in_snoc}
 use Rattle.instrument.specs.Admission.{with_site, with_sites}
 use Rattle.instrument.specs.Books.{Book, is_mini_of, mini_leaves, base_leaves, rooms_left, without_site, with_hold, unlinked_at, rooms_behind, rooms_of, stays}
 use Rattle.instrument.specs.Freed.{AllStay, AreHere, IsTakenOut, is_settled}
-use Rattle.instrument.specs.Placements.{behind_first, is_here, is_leaving, is_mini_room_of, is_site_of, with_state, without_sites}
+use Rattle.instrument.specs.Placements.{book_after, is_here, is_leaving, is_mini_room_of, is_site_of, with_state, without_sites}
 use Rattle.instrument.specs.Rosters.{RosterData}
 use Rattle.instrument.specs.ToolTexts.{ToolTextData}
 use Rattle.instrument.specs.declared.entry.Entry.{Entry}
@@ -93,7 +93,7 @@ owners_after (LinkMini p m) rooms = λ n. refl
 owners_after (LinkPoint p m) rooms = λ n. refl
 owners_after (Free p) rooms = λ n. refl
 
-pub owners_behind : (agenda : List Entry) (book : Book) → AreOwnersIn book.rooms (behind_first agenda book).rooms
+pub owners_behind : (agenda : List Entry) (book : Book) → AreOwnersIn book.rooms (book_after agenda book).rooms
 owners_behind [] book = λ n. refl
 owners_behind (e ∷ es) book = owners_after e book.rooms
 

@@ -1,7 +1,7 @@
 -- All rooms but a number of the first are given back, from the last one on.
 use Rattle.std.proofs.Common.{◌≡◌, ℕ, zero, suc, add-one, ◌/◌, ◌<◌, ◌≤◌, Option, Some, None, List, [], ◌∷◌, ◌++◌, length, take, drop, set, get_or, refl, sym, ap, subst, ◌∙◌, arith}
 use Rattle.std.proofs.lemmas.List.{append-nil, length-append, length-set, take-set, take_more, take_all}
-use Rattle.bucket_chains.specs.Left.{left}
+use Rattle.bucket_chains.specs.Left.{present_entries}
 use Rattle.rv_word.specs.Plain.{Words}
 use Rattle.tool_space.specs.Rooms.{Rooms, IsTaken, after_give}
 use Rattle.instrument.specs.RoomPlaces.{RoomPlaces}
@@ -12,7 +12,7 @@ use Rattle.instrument.proofs.Holdings.{middle, may_give, taken}
 use Rattle.bucket_chains.proofs.Nexts.{left_push}
 use Rattle.instrument.proofs.RoomLists.{entry_within, left_out, left_parts, left_without}
 
-left_more_none : (es : List (Option Room)) → left (es ++ None ∷ []) ≡ left es
+left_more_none : (es : List (Option Room)) → present_entries (es ++ None ∷ []) ≡ present_entries es
 left_more_none [] = refl
 left_more_none (None ∷ es) = left_more_none es
 left_more_none (Some x ∷ es) = ap (λ l. x ∷ l) (left_more_none es)
@@ -58,18 +58,18 @@ module _ (count : ℕ) (rooms₀ : RoomPlaces) (words₀ : Rooms) where
     pub len : length rooms.places ≡ length rooms₀.places
     pub within : place ≤ length rooms₀.places
     pub same : take place rooms.places ≡ take place rooms₀.places
-    pub left_is : left rooms.places ≡ left (take place rooms₀.places)
-    pub enough : count ≤ length (left rooms.places)
+    pub left_is : present_entries rooms.places ≡ present_entries (take place rooms₀.places)
+    pub enough : count ≤ length (present_entries rooms.places)
     pub spare : rooms.spare ≡ rooms₀.spare
-    pub tied : (program : Words) → AreRoomsOf program words₀ (left rooms₀.places) → AreRoomsOf program words (left rooms.places)
+    pub tied : (program : Words) → AreRoomsOf program words₀ (present_entries rooms₀.places) → AreRoomsOf program words (present_entries rooms.places)
     pub takes : words.takes ≡ words₀.takes
 
-  pub giving_begun : count ≤ length (left rooms₀.places) → IsGiving rooms₀ words₀ (length rooms₀.places)
+  pub giving_begun : count ≤ length (present_entries rooms₀.places) → IsGiving rooms₀ words₀ (length rooms₀.places)
   giving_begun enough = record {
     len = refl;
     within = omega arith;
     same = refl;
-    left_is = ap left (sym (take_all (length rooms₀.places) rooms₀.places (omega arith)));
+    left_is = ap present_entries (sym (take_all (length rooms₀.places) rooms₀.places (omega arith)));
     enough = enough;
     spare = refl;
     tied = λ program k. k;
@@ -89,7 +89,7 @@ module _ (count : ℕ) (rooms₀ : RoomPlaces) (words₀ : Rooms) where
       len = giving.len;
       within = omega (arith, giving.within);
       same = take_same (suc i) i rooms.places rooms₀.places (omega arith) giving.same;
-      left_is = giving.left_is ∙ ap left (up_to rooms₀.places i inside ∙ ap (λ o. take i rooms₀.places ++ o ∷ []) (sym at_same ∙ none)) ∙ left_more_none (take i rooms₀.places);
+      left_is = giving.left_is ∙ ap present_entries (up_to rooms₀.places i inside ∙ ap (λ o. take i rooms₀.places ++ o ∷ []) (sym at_same ∙ none)) ∙ left_more_none (take i rooms₀.places);
       enough = giving.enough;
       spare = giving.spare;
       tied = giving.tied;
@@ -98,26 +98,26 @@ module _ (count : ℕ) (rooms₀ : RoomPlaces) (words₀ : Rooms) where
 
     module _ (x : Room) (here : get_or rooms.places i None ≡ Some x) where
       abbrev before : List Room
-      before = left (take i rooms₀.places)
+      before = present_entries (take i rooms₀.places)
 
-      last : left rooms.places ≡ before ++ x ∷ []
-      last = giving.left_is ∙ ap left (up_to rooms₀.places i inside ∙ ap (λ o. take i rooms₀.places ++ o ∷ []) (sym at_same ∙ here)) ∙ left_push (take i rooms₀.places) x
+      last : present_entries rooms.places ≡ before ++ x ∷ []
+      last = giving.left_is ∙ ap present_entries (up_to rooms₀.places i inside ∙ ap (λ o. take i rooms₀.places ++ o ∷ []) (sym at_same ∙ here)) ∙ left_push (take i rooms₀.places) x
 
-      front : left (take i rooms.places) ≡ before
-      front = ap left (take_same (suc i) i rooms.places rooms₀.places (omega arith) giving.same)
+      front : present_entries (take i rooms.places) ≡ before
+      front = ap present_entries (take_same (suc i) i rooms.places rooms₀.places (omega arith) giving.same)
 
-      none_behind : left (drop (suc i) rooms.places) ≡ []
+      none_behind : present_entries (drop (suc i) rooms.places) ≡ []
       none_behind =
-          let tails = same_tail before (x ∷ left (drop (suc i) rooms.places)) (x ∷ []) (ap (λ l. l ++ x ∷ left (drop (suc i) rooms.places)) (sym front) ∙ sym (left_out rooms.places i x here) ∙ last) in
+          let tails = same_tail before (x ∷ present_entries (drop (suc i) rooms.places)) (x ∷ []) (ap (λ l. l ++ x ∷ present_entries (drop (suc i) rooms.places)) (sym front) ∙ sym (left_out rooms.places i x here) ∙ last) in
           cc
 
-      pub rest : left (set rooms.places i None) ≡ before
-      rest = left_without rooms.places i (entry_within rooms.places i x here) ∙ ap (λ l. l ++ left (drop (suc i) rooms.places)) front ∙ ap (λ l. before ++ l) none_behind ∙ append-nil before
+      pub rest : present_entries (set rooms.places i None) ≡ before
+      rest = left_without rooms.places i (entry_within rooms.places i x here) ∙ ap (λ l. l ++ present_entries (drop (suc i) rooms.places)) front ∙ ap (λ l. before ++ l) none_behind ∙ append-nil before
 
-      rooms_of : (program : Words) → AreRoomsOf program words₀ (left rooms₀.places) → AreRoomsOf program words (before ++ x ∷ [])
+      rooms_of : (program : Words) → AreRoomsOf program words₀ (present_entries rooms₀.places) → AreRoomsOf program words (before ++ x ∷ [])
       rooms_of program k = subst (AreRoomsOf program words) last (giving.tied program k)
 
-      module _ (program : Words) (k : AreRoomsOf program words₀ (left rooms₀.places)) where
+      module _ (program : Words) (k : AreRoomsOf program words₀ (present_entries rooms₀.places)) where
         pub some_words : 0 < x.len
         some_words = ((rooms_of program k).whole x (middle before [] x)).0
 
@@ -127,10 +127,10 @@ module _ (count : ℕ) (rooms₀ : RoomPlaces) (words₀ : Rooms) where
         pub was_taken : IsTaken words (x.at / 4) x.len
         was_taken = taken words_of_room _ _ words (before ++ x ∷ []) (rooms_of program k).taken x (middle before [] x)
 
-      pub giving_more : (rooms' : RoomPlaces) (words' : Rooms) → rooms' ≡ record rooms { places = set rooms.places i None } → words' ≡ after_give words (x.at / 4) x.len → count < length (left rooms.places) → IsGiving rooms' words' i
+      pub giving_more : (rooms' : RoomPlaces) (words' : Rooms) → rooms' ≡ record rooms { places = set rooms.places i None } → words' ≡ after_give words (x.at / 4) x.len → count < length (present_entries rooms.places) → IsGiving rooms' words' i
       giving_more rooms' words' e g more =
           let places : rooms'.places ≡ set rooms.places i None = ap (λ (z : RoomPlaces). z.places) e in
-          let rest_is : left rooms'.places ≡ before = ap left places ∙ rest in
+          let rest_is : present_entries rooms'.places ≡ before = ap present_entries places ∙ rest in
           record {
             len = ap length places ∙ length-set rooms.places i None ∙ giving.len;
             within = omega (arith, giving.within);
@@ -146,8 +146,8 @@ module _ (count : ℕ) (rooms₀ : RoomPlaces) (words₀ : Rooms) where
           }
 
   -- as many are left
-  pub giving_over : (rooms : RoomPlaces) (words : Rooms) (place : ℕ) → IsGiving rooms words place → length (left rooms.places) ≤ count → left rooms.places ≡ take count (left rooms₀.places)
+  pub giving_over : (rooms : RoomPlaces) (words : Rooms) (place : ℕ) → IsGiving rooms words place → length (present_entries rooms.places) ≤ count → present_entries rooms.places ≡ take count (present_entries rooms₀.places)
   giving_over rooms words place giving few =
       giving.left_is
-      ∙ sym (take_front (left (take place rooms₀.places)) (left (drop place rooms₀.places)) count (omega (arith, few, giving.enough, ap length giving.left_is)))
+      ∙ sym (take_front (present_entries (take place rooms₀.places)) (present_entries (drop place rooms₀.places)) count (omega (arith, few, giving.enough, ap length giving.left_is)))
       ∙ ap (take count) (sym (left_parts rooms₀.places place))

@@ -6,7 +6,7 @@ use Rattle.std.proofs.lemmas.Bool.{true≢false, eq-eqb, and_from, or_left, or_r
 use Rattle.rv_word.specs.Plain.{Words}
 use Rattle.tramp_spec.specs.Harts.{Hart}
 use Rattle.machine.specs.Cores.{In, Row, Core}
-use Rattle.machine.specs.Effects.{after}
+use Rattle.machine.specs.Effects.{after_event}
 use Rattle.machine.specs.Events as events
 use Rattle.machine.specs.Events.{Event, May, IsQuiet}
 use Rattle.machine.specs.Places.{holds}
@@ -87,7 +87,7 @@ still_turn : (o : Option Hart) (c : Core) (h : ℕ) → Still c (turn_by o c h)
 still_turn None c h = record { program = refl; code = refl; rows = refl }
 still_turn (Some x) c h = record { program = refl; code = refl; rows = refl }
 
-pub still : (c : Core) (e : Event) → LeavesBlocks e → Still c (after c e)
+pub still : (c : Core) (e : Event) → LeavesBlocks e → Still c (after_event c e)
 still c (events.Turn h) l = still_turn (slice_get c.harts h) c h
 still c (events.Arm i) l = record { program = refl; code = refl; rows = refl }
 still c (events.Sample i) l = record { program = refl; code = refl; rows = refl }
@@ -180,8 +180,8 @@ step_keeps (Happened e) st k m =
       kept = record {
         reached = reaches_more st.core e k.reached m.1;
         fr = k.fr;
-        tied = subst (λ x. Tied x (after st.core e).rows k.fr) (sym f.code) (subst (λ x. Tied st.core.code x k.fr) (sym f.rows) k.tied);
-        book = subst (λ x. Booked x (after st.core e).rows k.fr st.book.rooms st.book.agenda) (sym f.program) (subst (λ x. Booked st.core.program x k.fr st.book.rooms st.book.agenda) (sym f.rows) k.book);
+        tied = subst (λ x. Tied x (after_event st.core e).rows k.fr) (sym f.code) (subst (λ x. Tied st.core.code x k.fr) (sym f.rows) k.tied);
+        book = subst (λ x. Booked x (after_event st.core e).rows k.fr st.book.rooms st.book.agenda) (sym f.program) (subst (λ x. Booked st.core.program x k.fr st.book.rooms st.book.agenda) (sym f.rows) k.book);
       };
     }
 step_keeps (Admitted owner b) st k m =

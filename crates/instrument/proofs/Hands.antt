@@ -19,7 +19,7 @@ use Rattle.instrument.specs.Handing.{is_barred}
 use Rattle.instrument.specs.Placements.{is_leaving, is_mini_room_of, is_here, sites_of, point_in, agenda_in}
 use Rattle.instrument.specs.declared.instrument.Instrument.{Instrument}
 use Rattle.instrument.specs.Scenes as scenes
-use Rattle.instrument.specs.Scenes.{Scene, Told, frees, sweeps, Hands, Sweeps}
+use Rattle.instrument.specs.Scenes.{InstrumentScene, Told, frees, sweeps, Hands, Sweeps}
 use Rattle.instrument.specs.declared.entry.Entry.{Entry}
 use Rattle.instrument.specs.declared.entry.Entry.TheVariants.{WriteBase, WriteMini, LinkMini, LinkPoint, UnlinkMini, UnlinkPoint, Free}
 use Rattle.instrument.specs.declared.number.State.TheVariants.{Armed}
@@ -126,7 +126,7 @@ orderly_on st new m instruments left plans count o sub here = record {
 -- ---- an act of one step
 
 -- what an act is by a step
-pub record ByStep (s : Scene) (a : Step) (t : Told) : Type 0 where
+pub record ByStep (s : InstrumentScene) (a : Step) (t : Told) : Type 0 where
   pub state : at_of t.scene ≡ (does a (at_of s)).state
   pub events : t.events ≡ (does a (at_of s)).events
   pub program : t.scene.placer.program ≡ s.placer.program
@@ -136,7 +136,7 @@ pub record ByStep (s : Scene) (a : Step) (t : Told) : Type 0 where
   pub here : (i : Instrument) → In i s.placer.instruments → (x : Room) → In x t.scene.placer.book.rooms → x.base ≡ false → x.owner ≡ i.no → In i t.scene.placer.instruments
 
 -- an event of the machine by itself lets every instrument that is armed be
-abbrev pub AllStepLet : Scene → Step → Type 0
+abbrev pub AllStepLet : InstrumentScene → Step → Type 0
 AllStepLet s a = (i : Instrument) → In i s.placer.instruments → i.state ≡ Armed → StepLets i.placed a
 
 armed_stays : (i : Instrument) → i.state ≡ Armed → is_leaving i.state ≡ false
@@ -149,7 +149,7 @@ leaves_any m (Dropped x) p = absurd p
 leaves_any m Handed p = tt
 leaves_any m Swept p = tt
 
-pub by_step : (first : Core) (s : Scene) (es : List Event) (w : Whole first s es) (a : Step) (t : Told) → IsPlain a → Can a (at_of s) → AllStepLet s a → ByStep s a t → Whole first t.scene (es ++ t.events)
+pub by_step : (first : Core) (s : InstrumentScene) (es : List Event) (w : Whole first s es) (a : Step) (t : Told) → IsPlain a → Can a (at_of s) → AllStepLet s a → ByStep s a t → Whole first t.scene (es ++ t.events)
 by_step first s es w a t p c l b =
     let st = at_of s in
     let g = step_keeps a (at_of s) w.kept c in
@@ -180,7 +180,7 @@ by_step first s es w a t p c l b =
 
 -- ---- handing out
 
-the_scene : Core → Words → ℕ → List Room → List Entry → List Instrument → ℕ → List Plan → Scene
+the_scene : Core → Words → ℕ → List Room → List Entry → List Instrument → ℕ → List Plan → InstrumentScene
 the_scene core program limit rooms agenda instruments count plans =
     record { core = core; placer = record { program = program; limit = limit; book = record { rooms = rooms; agenda = agenda }; instruments = instruments; count = count }; plans = plans }
 
@@ -190,7 +190,7 @@ left_here rooms instruments i h x hx b e =
     (or_right (not (is_leaving i.state)) _ (any_in (is_mini_room_of i.no) rooms x hx (and_from _ _ (not_from_false _ b) (eq-eqb _ _ e))))
 
 module _ (core : Core) (program : Words) (limit : ℕ) (rooms : List Room) (instruments : List Instrument) (count : ℕ) (plans : List Plan) where
-  abbrev at : List Entry → Scene
+  abbrev at : List Entry → InstrumentScene
   at agenda = record { core = core; placer = record { program = program; limit = limit; book = record { rooms = rooms; agenda = agenda }; instruments = instruments; count = count }; plans = plans }
 
   hand_free : (b : Bool) (p : ℕ) (es : List Entry) → is_barred core p ≡ b
@@ -247,12 +247,12 @@ module _ (core : Core) (program : Words) (limit : ℕ) (rooms : List Room) (inst
     here = λ i h x hx b k. left_here (filter (stays g.point) rooms) instruments i h x hx b k;
   }
 
-pub hands_whole : (first : Core) (s : Scene) (es : List Event) → Whole first s es → Whole first (scenes.does Hands s).scene (es ++ (scenes.does Hands s).events)
+pub hands_whole : (first : Core) (s : InstrumentScene) (es : List Event) → Whole first s es → Whole first (scenes.does Hands s).scene (es ++ (scenes.does Hands s).events)
 hands_whole first s es w =
     by_step first s es w Handed (scenes.does Hands s) tt tt (λ i h e. tt)
     (hand_by s.core s.placer.program s.placer.limit s.placer.book.rooms s.placer.instruments s.placer.count s.plans s.placer.book.agenda)
 
-pub sweeps_whole : (first : Core) (s : Scene) (es : List Event) → Whole first s es → events.IsQuiet s.core → Whole first (scenes.does Sweeps s).scene (es ++ (scenes.does Sweeps s).events)
+pub sweeps_whole : (first : Core) (s : InstrumentScene) (es : List Event) → Whole first s es → events.IsQuiet s.core → Whole first (scenes.does Sweeps s).scene (es ++ (scenes.does Sweeps s).events)
 sweeps_whole first s es w q =
     by_step first s es w Swept (scenes.does Sweeps s) tt q (λ i h e. tt)
     (sweep_free s.core s.placer.program s.placer.limit s.placer.book.rooms s.placer.instruments s.placer.count s.plans s.placer.book.agenda (first_free [] s.placer.book.agenda) refl (λ st. refl))

@@ -3,7 +3,7 @@ use Rattle.std.proofs.Common.{◌≡◌, ℕ, List, [], ◌∷◌, ◌++◌, ref
 use Rattle.std.specs.Prelude.{map, filter, Bool, true, false, ◌⊎◌, ◌&&◌, ◌==◌}
 use Rattle.std.proofs.lemmas.Bool.{true≢false, cases_eq, cond-true, cond-false, eq-eqb, ne_eqb, and_parts, and_from, and_right, not_from_false, not_from_true, false_from_ne_true}
 use Rattle.machine.specs.Cores.{In, Row, Status, Live, Core}
-use Rattle.machine.specs.Effects.{with_status, at_set, after}
+use Rattle.machine.specs.Effects.{with_status, at_set, after_event}
 use Rattle.machine.specs.Events as events
 use Rattle.machine.specs.Events.{May}
 use Rattle.machine.specs.Reached.{IsReached}
@@ -140,7 +140,7 @@ module _ (c : Core) (v : IsReached c) (fr : Fresh) (t : Tied c.code c.rows fr) (
       (λ o y ho hy. apart_across c.rows (puts e ++ pending es) b.apart o y ho (append_left (puts e) (pending es) y hy)) f in
       let q = rooms_kept c v fr rooms e es b in
       let l = r.1 in
-      let same_stage : stage (filter is_now (after c (event_of c e)).rows) (next (stage (filter is_now c.rows) fr) e).fresh ≡ next (stage (filter is_now c.rows) fr) e = ap (λ w. stage w (next (stage (filter is_now c.rows) fr) e).fresh) l.now in
+      let same_stage : stage (filter is_now (after_event c (event_of c e)).rows) (next (stage (filter is_now c.rows) fr) e).fresh ≡ next (stage (filter is_now c.rows) fr) e = ap (λ w. stage w (next (stage (filter is_now c.rows) fr) e).fresh) l.now in
       let z = l.claims rooms es (sized_of c.program (next (stage (filter is_now c.rows) fr) e) es g.2) b.apart b.claims in (
         r.0,
         record {
@@ -148,7 +148,7 @@ module _ (c : Core) (v : IsReached c) (fr : Fresh) (t : Tied c.code c.rows fr) (
           fr = (next (stage (filter is_now c.rows) fr) e).fresh;
           tied = l.tied;
           book = record {
-            sound = subst (λ x. Sound x (stage (filter is_now (after c (event_of c e)).rows) (next (stage (filter is_now c.rows) fr) e).fresh) es) (sym (fixed c (event_of c e)).0) (subst (λ k. Sound c.program k es) (sym same_stage) g.2);
+            sound = subst (λ x. Sound x (stage (filter is_now (after_event c (event_of c e)).rows) (next (stage (filter is_now c.rows) fr) e).fresh) es) (sym (fixed c (event_of c e)).0) (subst (λ k. Sound c.program k es) (sym same_stage) g.2);
             ends = ap (λ k. ending k es) same_stage ∙ (b.ends ∙ ap (λ w. stage w Idle) (sym q.0));
             apart = z.0;
             claims = z.1;

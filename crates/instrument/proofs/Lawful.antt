@@ -9,11 +9,11 @@ use Rattle.machine.specs.Events.{Event}
 use Rattle.machine.specs.Instruments.{CarriesSites}
 use Rattle.machine.specs.Laws.{IsProgram}
 use Rattle.machine.proofs.Lists as lists
-use Rattle.instrument.specs.Laws.{Always, AreApart, IsNoPlacing, IsLegal, IsApart, IsPlacedWhenLinked, StaysInForce}
+use Rattle.instrument.specs.Laws.{Always, AreApart, IsNoPlacing, AreLegalActs, IsApart, IsPlacedWhenLinked, StaysInForce}
 use Rattle.instrument.specs.Placements.{is_leaving}
 use Rattle.instrument.specs.declared.instrument.Instrument.{Instrument}
 use Rattle.instrument.specs.Scenes as scenes
-use Rattle.instrument.specs.Scenes.{Act, Happens, Admits, Arms, Drops, Hands, Sweeps, Scene, first_scene, CanDo, AllCanDo, events_of, scene_after}
+use Rattle.instrument.specs.Scenes.{Act, Happens, Admits, Arms, Drops, Hands, Sweeps, InstrumentScene, first_scene, CanDo, AllCanDo, events_of, scene_after}
 use Rattle.instrument.specs.declared.entry.Entry.{Entry}
 use Rattle.instrument.specs.declared.entry.Entry.TheVariants.{WriteBase, WriteMini, LinkMini, LinkPoint, UnlinkMini, UnlinkPoint, Free}
 use Rattle.instrument.specs.declared.room.Room.{Room}
@@ -31,7 +31,7 @@ use Rattle.instrument.proofs.Admitting.{admit_whole}
 
 -- ---- what is kept, is kept by every act
 
-act_whole : (first : Core) (s : Scene) (es : List Event) (a : Act) → Whole first s es → CanDo a s → Whole first (scenes.does a s).scene (es ++ (scenes.does a s).events)
+act_whole : (first : Core) (s : InstrumentScene) (es : List Event) (a : Act) → Whole first s es → CanDo a s → Whole first (scenes.does a s).scene (es ++ (scenes.does a s).events)
 act_whole first s es (Happens e) w c = happens_whole first s es e w c.0 c.1
 act_whole first s es (Admits plan cost) w c = admit_whole first s es w plan c cost
 act_whole first s es (Arms n) w c = arms_whole first s es n w c
@@ -39,7 +39,7 @@ act_whole first s es (Drops n) w c = drop_whole first s es w n
 act_whole first s es Hands w c = hands_whole first s es w
 act_whole first s es Sweeps w c = sweeps_whole first s es w c
 
-all_whole : (first : Core) (acts : List Act) (s : Scene) (es : List Event) → Whole first s es → AllCanDo acts s → Whole first (scene_after acts s) (es ++ events_of acts s)
+all_whole : (first : Core) (acts : List Act) (s : InstrumentScene) (es : List Event) → Whole first s es → AllCanDo acts s → Whole first (scene_after acts s) (es ++ events_of acts s)
 all_whole first [] s es w c = subst (λ l. Whole first s l) (sym (append_nil es)) w
 all_whole first (a ∷ acts) s es w c =
     subst (λ l. Whole first (scene_after (a ∷ acts) s) l) (append_assoc es (scenes.does a s).events (events_of acts (scenes.does a s).scene))
@@ -82,7 +82,7 @@ always image harts budget limit acts p c = all_whole (start_core image harts bud
 
 -- ---- the laws
 
-pub legal_always : Always IsLegal
+pub legal_always : Always AreLegalActs
 legal_always image harts budget limit acts p c = let w = always image harts budget limit acts p c in record { legal = w.legal; core = w.core }
 
 rooms_apart : (rooms : List Room) → AllApart (map room_row rooms) → AreApart rooms
@@ -119,7 +119,7 @@ placed_always image harts budget limit acts p c =
     }
 
 -- what a site holds is the body of its mini block, where that is live and its room held
-carries_sites : (s : Scene) (i : Instrument) (all : List PlacedSite) → AllLinked s.core all → ((q : PlacedSite) → In q all → (x : Room) × In x s.placer.book.rooms × (x.base ≡ false) × (x.owner ≡ i.no) × (x.point ≡ q.at) × (x.at ≡ q.mini))
+carries_sites : (s : InstrumentScene) (i : Instrument) (all : List PlacedSite) → AllLinked s.core all → ((q : PlacedSite) → In q all → (x : Room) × In x s.placer.book.rooms × (x.base ≡ false) × (x.owner ≡ i.no) × (x.point ≡ q.at) × (x.at ≡ q.mini))
     → (ps : List PlacedSite) (qs : List Site) → ((q : PlacedSite) → In q ps → In q all) → SitesHold (at_of s) i ps qs → CarriesSites s.core i.placed.slots ps qs
 carries_sites s i all l f [] [] sub h = tt
 carries_sites s i all l f [] (q ∷ qs) sub h = h

@@ -9,7 +9,7 @@ use Rattle.tramp_spec.specs.declared.block.Block.{Block}
 use Rattle.machine.proofs.Lists.{in_map, in_filter}
 use Rattle.instrument.specs.Admission.{with_site, with_sites, and_then}
 use Rattle.instrument.specs.Books.{Book, is_mini_of, mini_leaves, base_leaves, rooms_left, without_site, with_hold, unlinked_at, rooms_behind, rooms_of, mini_room}
-use Rattle.instrument.specs.Placements.{is_mini_room_of, sites_of, behind_first, without_sites}
+use Rattle.instrument.specs.Placements.{is_mini_room_of, sites_of, book_after, without_sites}
 use Rattle.instrument.specs.Placers.{AreAdmitted}
 use Rattle.instrument.specs.declared.entry.Entry.{Entry}
 use Rattle.instrument.specs.declared.entry.Entry.TheVariants.{WriteBase, WriteMini, LinkMini, LinkPoint, UnlinkMini, UnlinkPoint, Free}
@@ -32,7 +32,7 @@ after_entry n (LinkMini p m) rooms k = k
 after_entry n (LinkPoint p m) rooms k = k
 after_entry n (Free p) rooms k = k
 
-pub admitted_behind : (n : ℕ) (agenda : List Entry) (book : Book) → AreAdmitted n book.rooms → AreAdmitted n (behind_first agenda book).rooms
+pub admitted_behind : (n : ℕ) (agenda : List Entry) (book : Book) → AreAdmitted n book.rooms → AreAdmitted n (book_after agenda book).rooms
 admitted_behind n [] book k = k
 admitted_behind n (e ∷ es) book k = after_entry n e book.rooms k
 

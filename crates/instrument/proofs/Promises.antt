@@ -4,7 +4,7 @@ use Rattle.std.specs.Prelude.{map, find, false}
 use Rattle.tramp_spec.specs.declared.block.Block.{Block}
 use Rattle.tramp_spec.specs.declared.mark.MarkedWord.{MarkedWord}
 use Rattle.machine.specs.Cores.{In, Row, Core}
-use Rattle.machine.specs.Effects.{after}
+use Rattle.machine.specs.Effects.{after_event}
 use Rattle.machine.specs.Events.{Apart}
 use Rattle.machine.specs.Instruments.{body_in, body_of_block}
 use Rattle.instrument.specs.Books.{Blocks, is_base_of, is_mini_of, with_hold, placing, mini_leaves, removing}
@@ -36,21 +36,21 @@ module _ (m : ℕ) (body : List MarkedWord) (st : State) (h : HoldsBody m body s
   by_stays d f r i b e = let o = f r i b in o.4 ∙ h.written o.0 o.1 o.2 (o.3 ∙ e)
 
   written_by : (e : Entry) (es : List Entry) → Booked st.core.program st.core.rows k.fr st.book.rooms (e ∷ es) → ((z : Entry) → In z (e ∷ es) → In z st.book.agenda)
-      → (r : Row) → In r (after st.core (event_of st.core e)).rows → r.base ≡ false → r.at ≡ m → body_in (after st.core (event_of st.core e)).code r ≡ body
+      → (r : Row) → In r (after_event st.core (event_of st.core e)).rows → r.base ≡ false → r.at ≡ m → body_in (after_event st.core (event_of st.core e)).code r ≡ body
   written_by e es b sub = by e b sub
     where
       away : (e : Entry) → Booked st.core.program st.core.rows k.fr st.book.rooms (e ∷ es) → (o y : Row) → In o st.core.rows → In y (puts e) → Apart o.at o.len y.at y.len
       away e b o y ho hy = apart_across st.core.rows (puts e ++ pending es) b.apart o y ho (append_left (puts e) (pending es) y hy)
 
       old : (e : Entry) → Booked st.core.program st.core.rows k.fr st.book.rooms (e ∷ es) → ((b : Block) → e ≡ WriteMini b → ⊥)
-          → (r : Row) → In r (after st.core (event_of st.core e)).rows → r.base ≡ false → r.at ≡ m → body_in (after st.core (event_of st.core e)).code r ≡ body
-      old e b n = by_stays (after st.core (event_of st.core e)) (stays_entry st.core k.reached k.fr k.tied e b.sound.0 b.sound.1 (away e b) n)
+          → (r : Row) → In r (after_event st.core (event_of st.core e)).rows → r.base ≡ false → r.at ≡ m → body_in (after_event st.core (event_of st.core e)).code r ≡ body
+      old e b n = by_stays (after_event st.core (event_of st.core e)) (stays_entry st.core k.reached k.fr k.tied e b.sound.0 b.sound.1 (away e b) n)
 
       by : (e : Entry) → Booked st.core.program st.core.rows k.fr st.book.rooms (e ∷ es) → ((z : Entry) → In z (e ∷ es) → In z st.book.agenda)
-          → (r : Row) → In r (after st.core (event_of st.core e)).rows → r.base ≡ false → r.at ≡ m → body_in (after st.core (event_of st.core e)).code r ≡ body
+          → (r : Row) → In r (after_event st.core (event_of st.core e)).rows → r.base ≡ false → r.at ≡ m → body_in (after_event st.core (event_of st.core e)).code r ≡ body
       by (WriteMini d) b sub = λ r i n e. ⊎_elim
-          (λ (q : (r.at ≡ d.at) × (body_in (after st.core (event_of st.core (WriteMini d))).code r ≡ body_of_block d)). q.1 ∙ h.waiting d (sub (WriteMini d) (inl refl)) (sym q.0 ∙ e))
-          (λ (o : (o : Row) × In o st.core.rows × (o.base ≡ false) × (o.at ≡ r.at) × (body_in (after st.core (event_of st.core (WriteMini d))).code r ≡ body_in st.core.code o)). o.4 ∙ h.written o.0 o.1 o.2 (o.3 ∙ e))
+          (λ (q : (r.at ≡ d.at) × (body_in (after_event st.core (event_of st.core (WriteMini d))).code r ≡ body_of_block d)). q.1 ∙ h.waiting d (sub (WriteMini d) (inl refl)) (sym q.0 ∙ e))
+          (λ (o : (o : Row) × In o st.core.rows × (o.base ≡ false) × (o.at ≡ r.at) × (body_in (after_event st.core (event_of st.core (WriteMini d))).code r ≡ body_in st.core.code o)). o.4 ∙ h.written o.0 o.1 o.2 (o.3 ∙ e))
           (stays_mini st.core k.reached k.fr k.tied d b.sound.0 (away (WriteMini d) b) r i n)
       by (WriteBase d) b sub = old (WriteBase d) b (λ x i. absurd cc)
       by (LinkMini p q) b sub = old (LinkMini p q) b (λ x i. absurd cc)
@@ -93,7 +93,7 @@ pub step_holds : (a : Step) (st : State) → Kept st → Neat st.book.rooms → 
 step_holds (Happened e) st k n c m body x hx em h =
     let f = still st.core e c.0 in
     record {
-      written = subst (λ w. (r : Row) → In r (after st.core e).rows → r.base ≡ false → r.at ≡ m → body_in w r ≡ body) (sym f.code)
+      written = subst (λ w. (r : Row) → In r (after_event st.core e).rows → r.base ≡ false → r.at ≡ m → body_in w r ≡ body) (sym f.code)
           (subst (λ w. (r : Row) → In r w → r.base ≡ false → r.at ≡ m → body_in st.core.code r ≡ body) (sym f.rows) h.written);
       waiting = h.waiting;
     }

@@ -6,7 +6,7 @@ use Rattle.std.proofs.lemmas.Bool.{and_parts, eqb-true, not-true}
 use Rattle.std.proofs.lemmas.List.{length-append}
 use Rattle.pn_types.specs.declared.placed.PlacedSite.{PlacedSite}
 use Rattle.bucket_chains.specs.Entries.{bucket_of}
-use Rattle.bucket_chains.specs.Left.{left}
+use Rattle.bucket_chains.specs.Left.{present_entries}
 use Rattle.bucket_chains.proofs.Skips.{Seeks}
 use Rattle.instrument.specs.Books.{is_base_of, is_held, is_mini_of, is_unlinked, stays}
 use Rattle.instrument.specs.Placements.{is_mini_room_of, sites_of}
@@ -53,8 +53,8 @@ sites_take n x xs e = ap (λ c. map site_of (cond c (x ∷ filter (is_mini_room_
 pub record IsListing (owner : ℕ) (places : List (Option Room)) (next : Option ℕ) (sites : List PlacedSite) (capacity : ℕ) : Type 0 where
   pub rest : List PlacedSite
   pub seeks : Seeks owner_key (bucket_of owner) (sites_of owner) places next rest
-  pub all : sites ++ rest ≡ sites_of owner (left places)
-  pub room : length (sites_of owner (left places)) ≤ capacity
+  pub all : sites ++ rest ≡ sites_of owner (present_entries places)
+  pub room : length (sites_of owner (present_entries places)) ≤ capacity
 
 -- ---- the rooms that go where a point is freed
 

@@ -12,7 +12,7 @@ use Rattle.tramp_spec.proofs.Hops.{Hops, jump_hops}
 use Rattle.machine.specs.Cores.{In, Row, Written, Core, is_current}
 use Rattle.machine.specs.Events.{Apart, current_base, link_at, next_of}
 use Rattle.machine.specs.Instruments.{body_of_block}
-use Rattle.machine.specs.Kept.{IsKept}
+use Rattle.machine.specs.Kept.{IsInvariant}
 use Rattle.machine.specs.Reached.{IsReached}
 use Rattle.machine.proofs.Effects.{link_is}
 use Rattle.machine.proofs.KeptRows.{linkings_to, kept_there, tool_high, has_len, row_there, link_inside, head_inside}
@@ -31,7 +31,7 @@ leading_len b n some =
     length-append (body_of_block b) (tool (jump_word (b.at + 4 * length (body_of_block b)) n) ∷ []) ∙ body_len b some
 
 module _ (c : Core) (v : IsReached c) where
-  k : IsKept (linkings_to c v) c
+  k : IsInvariant (linkings_to c v) c
   k = kept_there c v
 
   pub same_row : (x y : Row) → In x c.rows → In y c.rows → x.at ≡ y.at → x ≡ y

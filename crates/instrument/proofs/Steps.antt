@@ -2,7 +2,7 @@
 use Rattle.std.proofs.Common.{◌≡◌, ℕ, List, [], ◌∷◌, ◌++◌, length, Option, Some, None}
 use Rattle.std.specs.Prelude.{Bool, true, false}
 use Rattle.machine.specs.Cores.{In, Core}
-use Rattle.machine.specs.Effects.{after}
+use Rattle.machine.specs.Effects.{after_event}
 use Rattle.machine.specs.Events as events
 use Rattle.machine.specs.Events.{Event, May, Apart, IsQuiet}
 use Rattle.instrument.specs.Books.{Book, Blocks, with_blocks, without_site, FoundFree, first_free}
@@ -30,7 +30,7 @@ a_book rooms agenda = record { rooms = rooms; agenda = agenda }
 
 -- an entry is done, with what the book makes of it
 abbrev pub done : Entry → List Entry → State → Out
-done e es st = out (event_of st.core e ∷ []) (record { core = after st.core (event_of st.core e); book = a_book (rooms_done e st.book.rooms) es })
+done e es st = out (event_of st.core e ∷ []) (record { core = after_event st.core (event_of st.core e); book = a_book (rooms_done e st.book.rooms) es })
 
 -- a refused Free goes to the back
 abbrev pub release : Bool → ℕ → List Entry → State → Out
@@ -67,7 +67,7 @@ pub data Step : Type 0 where
   Swept : Step
 
 abbrev pub does : Step → State → Out
-does (Happened e) st = out (e ∷ []) (record { core = after st.core e; book = st.book })
+does (Happened e) st = out (e ∷ []) (record { core = after_event st.core e; book = st.book })
 does (Admitted owner k) st = out [] (record { core = st.core; book = with_blocks owner k st.book })
 does (Dropped x) st = out [] (record { core = st.core; book = without_site x st.book })
 does Handed st = hand st.book.agenda st

@@ -10,7 +10,7 @@ use Rattle.instrument.specs.Agendas.{without_first}
 use Rattle.instrument.specs.Books.{Book, is_held, is_mini_of, mini_leaves, base_leaves, rooms_left, without_site, with_hold, unlinked_at, rooms_behind}
 use Rattle.instrument.specs.Freed.{IsTakenOut}
 use Rattle.instrument.specs.Ledgers.{LedgerData}
-use Rattle.instrument.specs.Placements.{behind_first, first_of, is_site_of, without_sites}
+use Rattle.instrument.specs.Placements.{book_after, first_of, is_site_of, without_sites}
 use Rattle.instrument.specs.Spaces.{words_of_room, IsWhole, AreRoomsOf}
 use Rattle.instrument.specs.ToolTexts.{held_minis, for_drops, IsToolText}
 use Rattle.instrument.specs.declared.entry.Entry.{Entry}
@@ -44,7 +44,7 @@ rooms_after t space (LinkMini p m) rooms k = k
 rooms_after t space (LinkPoint p m) rooms k = k
 rooms_after t space (Free p) rooms k = k
 
-pub rooms_behind_first : (t : Words) (space : Rooms) (agenda : List Entry) (book : Book) → AreRoomsOf t space book.rooms → AreRoomsOf t space (behind_first agenda book).rooms
+pub rooms_behind_first : (t : Words) (space : Rooms) (agenda : List Entry) (book : Book) → AreRoomsOf t space book.rooms → AreRoomsOf t space (book_after agenda book).rooms
 rooms_behind_first t space [] book k = k
 rooms_behind_first t space (e ∷ es) book k = rooms_after t space e book.rooms k
 
@@ -76,7 +76,7 @@ fewer_after (LinkMini p m) rooms = omega arith
 fewer_after (LinkPoint p m) rooms = omega arith
 fewer_after (Free p) rooms = omega arith
 
-pub fewer_behind : (agenda : List Entry) (book : Book) → held_minis (behind_first agenda book).rooms ≤ held_minis book.rooms
+pub fewer_behind : (agenda : List Entry) (book : Book) → held_minis (book_after agenda book).rooms ≤ held_minis book.rooms
 fewer_behind [] book = omega arith
 fewer_behind (e ∷ es) book = fewer_after e book.rooms
 
@@ -86,7 +86,7 @@ pub more_behind : (agenda : List Entry) (room : ℕ) → room ≤ (without_first
 more_behind [] room = omega arith
 more_behind (e ∷ es) room = omega arith
 
-pub text_behind : (t : Words) (l m : LedgerData) (words : Rooms) → IsToolText t l words → m.book ≡ behind_first l.book.agenda l.book
+pub text_behind : (t : Words) (l m : LedgerData) (words : Rooms) → IsToolText t l words → m.book ≡ book_after l.book.agenda l.book
     → m.spare_entries ≡ (without_first (record { entries = l.book.agenda; room = l.spare_entries })).room → IsToolText t m words
 text_behind t l m words k b e =
     let f = fewer_behind l.book.agenda l.book in
@@ -97,7 +97,7 @@ text_behind t l m words k b e =
       entries = omega (arith, f, o, h, e, k.entries);
     }
 
-pub entries_behind : (t : Words) (l m : LedgerData) (words : Rooms) → IsToolText t l words → m.book ≡ behind_first l.book.agenda l.book
+pub entries_behind : (t : Words) (l m : LedgerData) (words : Rooms) → IsToolText t l words → m.book ≡ book_after l.book.agenda l.book
     → m.spare_entries ≡ (without_first (record { entries = l.book.agenda; room = l.spare_entries })).room → l.spare_entries - for_drops l.book.rooms ≤ m.spare_entries - for_drops m.book.rooms
 entries_behind t l m words k b e =
     let f = fewer_behind l.book.agenda l.book in
@@ -105,7 +105,7 @@ entries_behind t l m words k b e =
     let h = ap (λ (z : Book). held_minis z.rooms) b in
     omega (arith, f, o, h, e, k.entries)
 
-pub entry_freed : (t : Words) (l m : LedgerData) (words : Rooms) → IsToolText t l words → m.book ≡ behind_first l.book.agenda l.book
+pub entry_freed : (t : Words) (l m : LedgerData) (words : Rooms) → IsToolText t l words → m.book ≡ book_after l.book.agenda l.book
     → m.spare_entries ≡ (without_first (record { entries = l.book.agenda; room = l.spare_entries })).room → (o : Option Entry) → o ≡ first_of l.book.agenda
     → IfSome o (λ x. l.spare_entries - for_drops l.book.rooms < m.spare_entries - for_drops m.book.rooms)
 entry_freed t l m words k b e o q = subst (λ (z : Option Entry). IfSome z (λ x. l.spare_entries - for_drops l.book.rooms < m.spare_entries - for_drops m.book.rooms)) (sym q) (by l.book.agenda refl)

@@ -12,7 +12,7 @@ use Rattle.tramp_spec.specs.Marks.{enter, tool}
 use Rattle.tramp_spec.specs.declared.block.Block.{Block}
 use Rattle.tramp_spec.specs.declared.mark.MarkedWord.{MarkedWord}
 use Rattle.machine.specs.Cores.{In, Row, Status, Written, Live, Retired, Core, is_current}
-use Rattle.machine.specs.Effects.{with_status, at_set, lead_to, mini_linked, mini_unlinked, row_of, after}
+use Rattle.machine.specs.Effects.{with_status, at_set, lead_to, mini_linked, mini_unlinked, row_of, after_event}
 use Rattle.machine.specs.Events as events
 use Rattle.machine.specs.Events.{May, HasShape, Apart, current_base, row_at, link_at, next_of}
 use Rattle.machine.specs.Instruments.{body_of_block}
@@ -103,7 +103,7 @@ module _ (c : Core) (v : IsReached c) (fr : Fresh) (t : Tied c.code c.rows fr) w
   AwayFrom e = (o r : Row) → In o c.rows → In r (puts e) → Apart o.at o.len r.at r.len
 
   pub put_base : (b : Block) → GoodBase c.program b → Ok (stage (filter is_now c.rows) fr) (WriteBase b) → AwayFrom (WriteBase b)
-      → May c (event_of c (WriteBase b)) × Leads_to c (after c (event_of c (WriteBase b))) fr (WriteBase b)
+      → May c (event_of c (WriteBase b)) × Leads_to c (after_event c (event_of c (WriteBase b))) fr (WriteBase b)
   put_base b g k away =
       let row_is : row_of b ≡ block_row b true = ap (λ z. a_row b.point b.at (length b.words) z Written) g.base in
       let w = put_claims b.at b.words (block_row b true) refl g.place.low in (
@@ -160,7 +160,7 @@ module _ (c : Core) (v : IsReached c) (fr : Fresh) (t : Tied c.code c.rows fr) w
     next_is_to : next_of (put_words b.at ws c.code) new ≡ to
     next_is_to = next_new c v b g (head_of c.code (current_base c.rows b.point)) low.0 low.1 low.2
 
-    pub put_mini : May c (event_of c (WriteMini b)) × Leads_to c (after c (event_of c (WriteMini b))) fr (WriteMini b)
+    pub put_mini : May c (event_of c (WriteMini b)) × Leads_to c (after_event c (event_of c (WriteMini b))) fr (WriteMini b)
     put_mini =
         let row_is : row_of (leading b (head_of c.code (current_base c.rows b.point))) ≡ new = ap (λ z. a_row b.point b.at (length ws) z Written) g.mini in
         let l = len_is in

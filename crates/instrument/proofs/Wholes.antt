@@ -17,7 +17,7 @@ use Rattle.machine.specs.Replays.{replay, Legal}
 use Rattle.instrument.specs.Books.{is_held}
 use Rattle.instrument.specs.Placements.{is_leaving, sites_of}
 use Rattle.instrument.specs.declared.instrument.Instrument.{Instrument}
-use Rattle.instrument.specs.Scenes.{Scene}
+use Rattle.instrument.specs.Scenes.{InstrumentScene}
 use Rattle.instrument.specs.declared.entry.Entry.{Entry}
 use Rattle.instrument.specs.declared.entry.Entry.TheVariants.{WriteMini}
 use Rattle.instrument.specs.declared.number.State.TheVariants.{Armed}
@@ -64,13 +64,13 @@ pub record Orderly (st : State) (instruments : List Instrument) (plans : List Pl
   pub carried : (i : Instrument) → In i instruments → Carried st plans i
   pub slots : (i j : Instrument) → In i instruments → In j instruments → (i.no ≡ j.no → ⊥) → ShareNone (places_of i.placed) (places_of j.placed)
 
-abbrev pub at_of : Scene → State
+abbrev pub at_of : InstrumentScene → State
 at_of s = record { core = s.core; book = s.placer.book }
 
 abbrev pub AllLinked : Core → List PlacedSite → Type 0
 AllLinked c sites = (p : PlacedSite) → In p sites → LinkedSite c p.at p.mini
 
-pub record Whole (first : Core) (s : Scene) (es : List Event) : Type 0 where
+pub record Whole (first : Core) (s : InstrumentScene) (es : List Event) : Type 0 where
   pub kept : Kept (at_of s)
   pub neat : Neat s.placer.book.rooms
   pub program : s.placer.program ≡ s.core.program

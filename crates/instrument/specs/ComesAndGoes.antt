@@ -26,14 +26,14 @@ two_go = without_site (mini_room 1 (a_mini 0x11008)) (without_site (mini_room 0 
 abbrev pub third_comes : Book
 third_comes = with_blocks 2 (record { base = Some (a_base 0x1100c); mini = a_mini 0x11010 }) two_go
 
-abbrev pub left : Room → Room
-left x = with_hold (λ y. leaving y.hold) x
+abbrev pub room_leaving : Room → Room
+room_leaving x = with_hold (λ y. leaving y.hold) x
 
 -- The point is unlinked at the second dropping, and not at the first.
 pub record ComesAndGoes : Type 0 where
   pub rooms : third_comes.rooms
-      ≡ left (base_room (a_base 0x11000)) ∷ left (mini_room 0 (a_mini 0x11004))
-      ∷ left (mini_room 1 (a_mini 0x11008)) ∷ base_room (a_base 0x1100c) ∷ mini_room 2 (a_mini 0x11010) ∷ []
+      ≡ room_leaving (base_room (a_base 0x11000)) ∷ room_leaving (mini_room 0 (a_mini 0x11004))
+      ∷ room_leaving (mini_room 1 (a_mini 0x11008)) ∷ base_room (a_base 0x1100c) ∷ mini_room 2 (a_mini 0x11010) ∷ []
   pub agenda : third_comes.agenda
       ≡ WriteBase (a_base 0x11000) ∷ WriteMini (a_mini 0x11004) ∷ LinkMini 0x10000 0x11004 ∷ LinkPoint 0x10000 0x11000
       ∷ WriteMini (a_mini 0x11008) ∷ LinkMini 0x10000 0x11008

@@ -41,8 +41,8 @@ IsNoPlacing s (UnlinkPoint p m) = Unit {0}
 IsNoPlacing s (Free p) = Unit {0}
 
 -- all entries of the placing of its sites were handed out
-abbrev pub IsPlaced : Placements → Instrument → Type 0
-IsPlaced p i = (s : PlacedSite) → In s i.placed.sites → (e : Entry) → In e p.book.agenda → IsNoPlacing s e
+abbrev pub ArePlacingsDone : Placements → Instrument → Type 0
+ArePlacingsDone p i = (s : PlacedSite) → In s i.placed.sites → (e : Entry) → In e p.book.agenda → IsNoPlacing s e
 
 -- ---- laws: after all acts each of which could be done when its turn came
 
@@ -51,7 +51,7 @@ Always Law = (image : Image) (harts budget limit : ℕ) (acts : List Act)
     → IsProgram image → AllCanDo acts (first_scene image harts budget limit) → Law image harts budget limit acts
 
 -- each event that was done could happen when it came, and the machine is what the events make of it
-pub record IsLegal (image : Image) (harts budget limit : ℕ) (acts : List Act) : Type 0 where
+pub record AreLegalActs (image : Image) (harts budget limit : ℕ) (acts : List Act) : Type 0 where
   pub legal : Legal (events_of acts (first_scene image harts budget limit)) (start_core image harts budget)
   pub core : (scene_after acts (first_scene image harts budget limit)).core
       ≡ replay (events_of acts (first_scene image harts budget limit)) (start_core image harts budget)
@@ -65,7 +65,7 @@ pub record IsApart (image : Image) (harts budget limit : ℕ) (acts : List Act) 
 pub record IsPlacedWhenLinked (image : Image) (harts budget limit : ℕ) (acts : List Act) : Type 0 where
   pub placed : (i : Instrument) → In i (scene_after acts (first_scene image harts budget limit)).placer.instruments → i.state ≡ Placing
       → AreLinked (scene_after acts (first_scene image harts budget limit)).core i.placed.sites
-      → IsPlaced (scene_after acts (first_scene image harts budget limit)).placer i
+      → ArePlacingsDone (scene_after acts (first_scene image harts budget limit)).placer i
 
 -- an instrument that is armed is linked, carries its plan, and is in force since its arming
 pub record StaysInForce (image : Image) (harts budget limit : ℕ) (acts : List Act) : Type 0 where

@@ -4,7 +4,7 @@ use Rattle.pn_types.specs.declared.image.Image.{Image}
 use Rattle.pn_types.specs.declared.plan.Plan.{Plan}
 use Rattle.machine.specs.Cores.{In}
 use Rattle.prim_code.specs.Counts.{predicted}
-use Rattle.instrument.specs.Placements.{Placements, no_placements, is_leaving, state_of, admission, admitted, armed, dropped, behind, free_behind, put_back, freed}
+use Rattle.instrument.specs.Placements.{Placements, no_placements, is_leaving, state_of, admission, after_admission, with_armed, dropped, after_first, free_behind, put_back, freed}
 use Rattle.instrument.specs.declared.instrument.Instrument.{Instrument}
 use Rattle.instrument.specs.declared.number.State.TheVariants.{Placing, Gone}
 
@@ -19,10 +19,10 @@ pub data Call : Type 0 where
   Freed : (point : ℕ) → Call
 
 abbrev pub called : Call → Placements → Placements
-called (Admit plan cost) p = admitted plan cost p
-called (Arm n) p = armed n p
+called (Admit plan cost) p = after_admission plan cost p
+called (Arm n) p = with_armed n p
 called (Drop n) p = dropped n p
-called Next p = behind p
+called Next p = after_first p
 called NextFree p = free_behind p
 called (PutBack point) p = put_back point p
 called (Freed point) p = freed point p
@@ -52,7 +52,7 @@ pub record StatesStay : Type 0 where
       → IsNumbered p → is_leaving (state_of p n) ≡ false → IsNoDrop n k → is_leaving (state_of (called k p) n) ≡ false
 
 -- what an admission makes: an instrument of the next number, whose cost is within the limit
-pub record IsAdmission (p : Placements) (plan : Plan) (cost : Option ℕ) (q : Placements) : Type 0 where
+pub record IsAdmissionOf (p : Placements) (plan : Plan) (cost : Option ℕ) (q : Placements) : Type 0 where
   pub count : q.count ≡ p.count + 1
   pub before : state_of p p.count ≡ Gone
   pub state : state_of q p.count ≡ Placing
@@ -60,4 +60,4 @@ pub record IsAdmission (p : Placements) (plan : Plan) (cost : Option ℕ) (q : P
 
 abbrev pub AdmissionsTell : Type 0
 AdmissionsTell = (p : Placements) (plan : Plan) (cost : Option ℕ) (q : Placements)
-    → IsNumbered p → admission p plan cost ≡ Ok q → IsAdmission p plan cost q
+    → IsNumbered p → admission p plan cost ≡ Ok q → IsAdmissionOf p plan cost q

@@ -114,16 +114,16 @@ admission p plan cost =
 
 abbrev pub or_same : Placements → Result Placements Refused → Placements
 or_same p (Err refused) = p
-or_same p (Ok admitted) = admitted
+or_same p (Ok after_admission) = after_admission
 
 -- a refused admission changes nothing
-abbrev pub admitted : Plan → Option ℕ → Placements → Placements
-admitted plan cost p = or_same p (admission p plan cost)
+abbrev pub after_admission : Plan → Option ℕ → Placements → Placements
+after_admission plan cost p = or_same p (admission p plan cost)
 
 -- ---- arming and dropping
 
-abbrev pub armed : ℕ → Placements → Placements
-armed n p = record p { instruments = map (with_state n Armed) p.instruments }
+abbrev pub with_armed : ℕ → Placements → Placements
+with_armed n p = record p { instruments = map (with_state n Armed) p.instruments }
 
 abbrev pub without_sites : List Room → Book → Book
 without_sites [] book = book
@@ -143,16 +143,16 @@ abbrev pub first_of : List Entry → Option Entry
 first_of [] = None
 first_of (e ∷ es) = Some e
 
-abbrev pub behind_first : List Entry → Book → Book
-behind_first [] book = book
-behind_first (e ∷ es) book = record { rooms = rooms_behind e book.rooms; agenda = es }
+abbrev pub book_after : List Entry → Book → Book
+book_after [] book = book
+book_after (e ∷ es) book = record { rooms = rooms_behind e book.rooms; agenda = es }
 
 -- the entry that is handed out, and what is left
 abbrev pub front : Placements → Option Entry
 front p = first_of p.book.agenda
 
-abbrev pub behind : Placements → Placements
-behind p = record p { book = behind_first p.book.agenda p.book }
+abbrev pub after_first : Placements → Placements
+after_first p = record p { book = book_after p.book.agenda p.book }
 
 -- the Free that is taken out, and what is left
 abbrev pub found_free : Placements → Option FoundFree

@@ -2,7 +2,7 @@
 use Rattle.std.specs.Prelude.{◌≡◌, ℕ, ◌+◌, ◌≤◌, if◌then◌else◌, Option, Some, None, List, [], false, length, slice_index_or, take}
 use Rattle.std.specs.Option.{option_map}
 use Rattle.bucket_chains.specs.Entries.{Entries, bucket_of}
-use Rattle.bucket_chains.specs.Left.{left, buckets_of}
+use Rattle.bucket_chains.specs.Left.{present_entries, buckets_of}
 use Rattle.instrument.specs.Books.{stays}
 use Rattle.instrument.specs.Freed.{AllStay}
 use Rattle.instrument.specs.declared.room.Room.{Room}
@@ -57,7 +57,7 @@ pub record AreIndexed (places : List (Option Room)) (index : RoomEntries) : Type
 
 pub record AreRooms (places : List (Option Room)) (index : RoomEntries) (len capacity count spare : ℕ) : Type 0 where
   pub indexed : AreIndexed places index
-  pub counted : count ≡ length (left places)
+  pub counted : count ≡ length (present_entries places)
   pub memory : len + spare ≤ capacity
   pub room : spare ≤ index.room
 
@@ -66,4 +66,4 @@ pub record IsFirstToGo (point : ℕ) (places : List (Option Room)) (place : ℕ)
   pub room : Room
   pub at : slice_index_or places place None ≡ Some room
   pub leaves : stays point room ≡ false
-  pub first : AllStay point (left (take place places))
+  pub first : AllStay point (present_entries (take place places))

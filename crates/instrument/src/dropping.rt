@@ -1,7 +1,7 @@
 //! Drops the sites of instruments.
 
 ghost use Rattle.std.specs.Prelude.{◌≡◌, ◌+◌, ◌≤◌, filter};
-ghost use Rattle.bucket_chains.specs.Left.{left};
+ghost use Rattle.bucket_chains.specs.Left.{present_entries};
 ghost use Rattle.instrument.specs.Books as books;
 ghost use Rattle.instrument.specs.Droppings.{book_of, places_without};
 ghost use Rattle.instrument.specs.Placements.{is_site_of, without_sites};
@@ -35,13 +35,13 @@ fn drop_site(rooms: &mut Rooms, agenda: &mut Agenda, room: Room)
 
 /// Drops the sites of an instrument, in the order of their placing.
 pub fn drop_sites(rooms: &mut Rooms, agenda: &mut Agenda, owner: u64)
-    requires distinct { AreDistinct (left rooms.old.places) }
-    requires entries { for_drops (left rooms.old.places) ≤ agenda.old.room }
+    requires distinct { AreDistinct (present_entries rooms.old.places) }
+    requires entries { for_drops (present_entries rooms.old.places) ≤ agenda.old.room }
     ensures book { book_of rooms.new agenda.new
-        ≡ without_sites (filter (is_site_of owner) (left rooms.old.places)) (book_of rooms.old agenda.old) }
-    ensures distinct { AreDistinct (left rooms.new.places) }
+        ≡ without_sites (filter (is_site_of owner) (present_entries rooms.old.places)) (book_of rooms.old agenda.old) }
+    ensures distinct { AreDistinct (present_entries rooms.new.places) }
     ensures spare { rooms.new.spare ≡ rooms.old.spare }
-    ensures entries { agenda.old.room + for_drops (left rooms.new.places) ≤ agenda.new.room + for_drops (left rooms.old.places) }
+    ensures entries { agenda.old.room + for_drops (present_entries rooms.new.places) ≤ agenda.new.room + for_drops (present_entries rooms.old.places) }
 {
     let mut next = rooms.first_of(owner);
     while let Some(place) = next {

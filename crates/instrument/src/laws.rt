@@ -1,14 +1,14 @@
 //! What holds of the placer beside the machine.
 
 ghost use Rattle.instrument.specs.ComesAndGoes.{ComesAndGoes};
-ghost use Rattle.instrument.specs.Laws.{Always, IsApart, IsLegal, IsPlacedWhenLinked, StaysInForce};
+ghost use Rattle.instrument.specs.Laws.{Always, IsApart, AreLegalActs, IsPlacedWhenLinked, StaysInForce};
 ghost use Rattle.instrument.specs.Numbers.{AdmissionsTell, StatesStay};
 
 /// Take any image whose text is of words of 32 bits that never name x31, and any list of acts: turns and samples, plans that are
 /// admitted or refused, instruments that are armed and dropped, entries that are handed out and done, Frees that are put
 /// back or swept. Each event that is done may happen when it comes, and the machine is what the events make of it.
 pub fn acts_are_legal()
-    ensures { Always IsLegal }
+    ensures { Always AreLegalActs }
 {}
 
 /// After any list of acts no two rooms of blocks that weren't given back share a word, and no two instruments that aren't gone

@@ -8,7 +8,7 @@ ghost use Rattle.instrument.specs.Books as books;
 ghost use Rattle.instrument.specs.Freed.{AllStay, IsTakenOut};
 ghost use Rattle.instrument.specs.Ledgers as ledgers;
 ghost use Rattle.instrument.specs.Placements as placements;
-ghost use Rattle.instrument.specs.Placements.{agenda_in, behind_first, first_of, is_mini_room_of, is_site_of, point_in, without_sites};
+ghost use Rattle.instrument.specs.Placements.{agenda_in, book_after, first_of, is_mini_room_of, is_site_of, point_in, without_sites};
 ghost use Rattle.instrument.specs.Spaces.{AreDistinct, AreRoomsOf};
 ghost use Rattle.instrument.specs.ToolTexts.{for_drops};
 ghost use Rattle.instrument.specs.declared.entry.Entry.TheVariants.{Free};
@@ -33,13 +33,13 @@ pub struct Ledger {
 }
 
 impl Model for Ledger {
-    ghost use Rattle.bucket_chains.specs.Left.{left};
+    ghost use Rattle.bucket_chains.specs.Left.{present_entries};
     ghost use Rattle.instrument.specs.Ledgers.{LedgerData};
 
     ghost Value = { LedgerData };
 
     ghost view = { λ l. record {
-      book = record { rooms = left l.rooms.places; agenda = l.agenda.entries };
+      book = record { rooms = present_entries l.rooms.places; agenda = l.agenda.entries };
       spare_rooms = l.rooms.spare;
       spare_entries = l.agenda.room;
     } };
@@ -131,7 +131,7 @@ impl Ledger {
     /// Hands out the first entry of the agenda. Where it unlinks a block, the block's room is noted.
     pub fn hand_out(&mut self) -> Option<Entry>
         ensures entry { result ≡ first_of self.old.book.agenda }
-        ensures book { self.new.book ≡ behind_first self.old.book.agenda self.old.book }
+        ensures book { self.new.book ≡ book_after self.old.book.agenda self.old.book }
         ensures spare { self.new.spare_rooms ≡ self.old.spare_rooms }
         ensures entries { self.new.spare_entries
             ≡ (lists.without_first (record { entries = self.old.book.agenda; room = self.old.spare_entries })).room }

@@ -10,7 +10,7 @@ ghost use Rattle.prim_code.specs.Counts as table;
 ghost use Rattle.prim_code.specs.Named.{AreBelow};
 ghost use Rattle.instrument.specs.Admission as admission;
 ghost use Rattle.instrument.specs.Armable.{IsArmable};
-ghost use Rattle.instrument.specs.Laws.{IsPlaced};
+ghost use Rattle.instrument.specs.Laws.{ArePlacingsDone};
 ghost use Rattle.instrument.specs.Needs.{need_of, without};
 ghost use Rattle.instrument.specs.Placements as placements;
 ghost use Rattle.instrument.specs.Placers.{new_placer};
@@ -110,8 +110,8 @@ impl Placer {
     pub fn armed(&mut self, number: InstrumentNo)
         requires placing { placements.state_of self.old.placements number.n ≡ Placing }
         requires placed { (i : Instrument)
-            → placements.instrument_at self.old.placements number.n ≡ Some i → IsPlaced self.old.placements i }
-        ensures placements { self.new.placements ≡ placements.armed number.n self.old.placements }
+            → placements.instrument_at self.old.placements number.n ≡ Some i → ArePlacingsDone self.old.placements i }
+        ensures placements { self.new.placements ≡ placements.with_armed number.n self.old.placements }
         ensures entries { self.new.entries ≡ self.old.entries }
         ensures ready { self.new.ready ≡ self.old.ready }
     {
@@ -141,7 +141,7 @@ impl Placer {
     /// Hands out the first entry of the agenda: None exactly where the agenda is empty.
     pub fn next(&mut self) -> Option<Event>
         ensures event { result ≡ option_map shown (placements.front self.old.placements) }
-        ensures placements { self.new.placements ≡ placements.behind self.old.placements }
+        ensures placements { self.new.placements ≡ placements.after_first self.old.placements }
         ensures entries { self.old.entries ≤ self.new.entries }
         ensures room { IfSome result (λ event. self.old.entries < self.new.entries) }
         ensures ready { self.new.ready ≡ self.old.ready }

@@ -2,7 +2,7 @@
 
 ghost use Rattle.std.specs.Prelude.{◌≡◌, ◌≤◌, IfNone, IfSome, filter, length, map, take};
 ghost use Rattle.std.specs.Option.{option_map};
-ghost use Rattle.bucket_chains.specs.Left.{left};
+ghost use Rattle.bucket_chains.specs.Left.{present_entries};
 ghost use Rattle.instrument.specs.Books as books;
 ghost use Rattle.instrument.specs.Freed.{AllStay, IsTakenOut};
 ghost use Rattle.instrument.specs.RoomPlaces.{IsFirstToGo};
@@ -40,7 +40,7 @@ impl Rooms {
     /// Notes that the block at an address was unlinked.
     pub fn unlink(&mut self, at: u64)
         ensures places { self.new ≡ record self.old { places = map (option_map (books.with_hold (books.unlinked_at at))) self.old.places } }
-        ensures rooms { left self.new.places ≡ map (books.with_hold (books.unlinked_at at)) (left self.old.places) }
+        ensures rooms { present_entries self.new.places ≡ map (books.with_hold (books.unlinked_at at)) (present_entries self.old.places) }
     {
         let mut next = self.index.first_at(at);
         while let Some(place) = next {
@@ -53,7 +53,7 @@ impl Rooms {
 
     /// Returns the place of the first room of a point whose block was unlinked.
     fn unlinked_at(&self, point: u64) -> Option<usize>
-        ensures none { IfNone result (AllStay point (left self.now.places)) }
+        ensures none { IfNone result (AllStay point (present_entries self.now.places)) }
         ensures some { IfSome result (λ place. IsFirstToGo point self.now.places place) }
     {
         let mut next = self.index.first_at_point(point);
@@ -70,9 +70,9 @@ impl Rooms {
 
     /// Removes the first room of a point whose block was unlinked, and returns it.
     pub fn take_unlinked(&mut self, point: u64) -> Option<Room>
-        ensures none { IfNone result (AllStay point (left self.old.places)) }
+        ensures none { IfNone result (AllStay point (present_entries self.old.places)) }
         ensures same { IfNone result (self.new ≡ self.old) }
-        ensures taken { IfSome result (λ room. IsTakenOut point room (left self.old.places) (left self.new.places)) }
+        ensures taken { IfSome result (λ room. IsTakenOut point room (present_entries self.old.places) (present_entries self.new.places)) }
         ensures spare { self.new.spare ≡ self.old.spare }
     {
         let place = self.unlinked_at(point)?;

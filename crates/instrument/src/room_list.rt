@@ -2,7 +2,7 @@
 
 ghost use Rattle.std.specs.Prelude.{◌≡◌, ℕ, ◌+◌, ◌-◌, ◌<◌, ◌≤◌, ◌++◌, ◌∷◌, [], None, Some, IfOk, OnErr, OnOk, length, max, set, slice_index_or};
 ghost use Rattle.bucket_chains.specs.Entries.{IsFirst, bucket_at, bucket_of};
-ghost use Rattle.bucket_chains.specs.Left.{buckets_of, left};
+ghost use Rattle.bucket_chains.specs.Left.{buckets_of, present_entries};
 ghost use Rattle.instrument.specs.RoomPlaces.{AreIndexed, no_entries, no_rooms, owner_key};
 ghost use Rattle.instrument.specs.declared.room.Room.{Room};
 
@@ -65,7 +65,7 @@ impl Rooms {
 
     /// Returns how many rooms there are.
     pub fn count(&self) -> usize
-        ensures { result ≡ length (left self.now.places) }
+        ensures { result ≡ length (present_entries self.now.places) }
     {
         self.count
     }
@@ -103,7 +103,7 @@ impl Rooms {
 
     /// Removes the places without rooms.
     fn compact(&mut self)
-        ensures rooms { left self.new.places ≡ left self.old.places }
+        ensures rooms { present_entries self.new.places ≡ present_entries self.old.places }
         ensures spare { self.new.spare ≡ self.old.spare }
     {
         self.places.retain(|place| place.is_some());
@@ -117,7 +117,7 @@ impl Rooms {
     ///
     /// `NoMemory` where memory runs out. Then no more is reserved.
     pub fn reserve(&mut self, rooms: usize) -> Result<(), NoMemory>
-        ensures rooms { left self.new.places ≡ left self.old.places }
+        ensures rooms { present_entries self.new.places ≡ present_entries self.old.places }
         ensures ok { OnOk result (self.new.spare ≡ max self.old.spare rooms) }
         ensures err { OnErr result (self.new.spare ≡ self.old.spare) }
     {
@@ -136,7 +136,7 @@ impl Rooms {
     pub fn push(&mut self, room: Room)
         requires { 0 < self.old.spare }
         ensures places { self.new ≡ record { places = self.old.places ++ Some room ∷ []; spare = self.old.spare - 1 } }
-        ensures rooms { left self.new.places ≡ left self.old.places ++ room ∷ [] }
+        ensures rooms { present_entries self.new.places ≡ present_entries self.old.places ++ room ∷ [] }
     {
         self.places.push_reserved(Some(room));
         self.index.push(Some(room));

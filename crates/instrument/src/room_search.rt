@@ -2,7 +2,7 @@
 
 ghost use Rattle.std.specs.Prelude.{◌≡◌, ◌≤◌, [], find, length, vec_capacity};
 ghost use Rattle.std.specs.List.{list_any};
-ghost use Rattle.bucket_chains.specs.Left.{left};
+ghost use Rattle.bucket_chains.specs.Left.{present_entries};
 ghost use Rattle.instrument.specs.Books as books;
 ghost use Rattle.instrument.specs.Placements as placements;
 
@@ -13,7 +13,7 @@ use pn_types::PlacedSite;
 impl Rooms {
     /// Returns the room of the base block of a point whose unlinking wasn't asked for.
     pub fn find_base(&self, point: u64) -> Option<Room>
-        ensures { result ≡ find (books.is_base_of point) (left self.now.places) }
+        ensures { result ≡ find (books.is_base_of point) (present_entries self.now.places) }
     {
         let mut next = self.index.first_at_point(point);
         while let Some(place) = next {
@@ -29,7 +29,7 @@ impl Rooms {
 
     /// Returns the room of the first mini block of a point whose unlinking wasn't asked for.
     pub fn find_mini(&self, point: u64) -> Option<Room>
-        ensures { result ≡ find (books.is_mini_of point) (left self.now.places) }
+        ensures { result ≡ find (books.is_mini_of point) (present_entries self.now.places) }
     {
         let mut next = self.index.first_at_point(point);
         while let Some(place) = next {
@@ -45,7 +45,7 @@ impl Rooms {
 
     /// Returns whether a mini block of an instrument has a room.
     pub fn has_mini_of(&self, owner: u64) -> bool
-        ensures { result ≡ list_any (placements.is_mini_room_of owner) (left self.now.places) }
+        ensures { result ≡ list_any (placements.is_mini_room_of owner) (present_entries self.now.places) }
     {
         let mut next = self.index.first_of(owner);
         while let Some(place) = next {
@@ -62,8 +62,8 @@ impl Rooms {
     /// Returns the sites of an instrument, by its rooms. `sites` gives the memory.
     pub fn sites_of(&self, sites: Vec<PlacedSite>, owner: u64) -> Vec<PlacedSite>
         requires empty { sites.items ≡ [] }
-        requires room { length (placements.sites_of owner (left self.now.places)) ≤ vec_capacity sites }
-        ensures { result.items ≡ placements.sites_of owner (left self.now.places) }
+        requires room { length (placements.sites_of owner (present_entries self.now.places)) ≤ vec_capacity sites }
+        ensures { result.items ≡ placements.sites_of owner (present_entries self.now.places) }
     {
         let mut sites = sites;
         let mut next = self.index.first_of(owner);

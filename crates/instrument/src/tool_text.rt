@@ -5,7 +5,7 @@ ghost use Rattle.std.specs.List.{list_any};
 ghost use Rattle.pn_types.specs.Images.{IsImage};
 ghost use Rattle.instrument.specs.Freed.{AllStay, IsTakenOut};
 ghost use Rattle.instrument.specs.Books as books;
-ghost use Rattle.instrument.specs.Placements.{agenda_in, behind_first, first_of, is_mini_room_of, is_site_of, point_in, without_sites};
+ghost use Rattle.instrument.specs.Placements.{agenda_in, book_after, first_of, is_mini_room_of, is_site_of, point_in, without_sites};
 ghost use Rattle.instrument.specs.ToolTexts as texts;
 ghost use Rattle.instrument.specs.declared.entry.Entry.TheVariants.{Free};
 
@@ -86,7 +86,7 @@ impl ToolText {
     pub fn hand_out(&mut self) -> Option<Entry>
         ensures entry { result ≡ first_of self.old.book.agenda }
         ensures program { self.new.program ≡ self.old.program }
-        ensures book { self.new.book ≡ behind_first self.old.book.agenda self.old.book }
+        ensures book { self.new.book ≡ book_after self.old.book.agenda self.old.book }
         ensures spare { self.new.spare_rooms ≡ self.old.spare_rooms }
         ensures takes { self.new.takes ≡ self.old.takes }
         ensures entries { self.old.entries ≤ self.new.entries }

@@ -8,8 +8,8 @@ use Rattle.machine.specs.Events.{Event}
 use Rattle.machine.specs.Instruments.{AllLet, Lets}
 use Rattle.instrument.specs.Books.{freed_point}
 use Rattle.instrument.specs.Handing.{event_of, is_barred}
-use Rattle.instrument.specs.Placements.{Placements, behind, free_behind, free_front, front, instrument_at}
-use Rattle.instrument.specs.Scenes.{Act, Happens, Admits, Arms, Drops, Hands, Sweeps, CanArm, CanDo, IsTurnOrSample, Scene, arms, does, frees, hands, hands_by, sweeps}
+use Rattle.instrument.specs.Placements.{Placements, after_first, free_behind, free_front, front, instrument_at}
+use Rattle.instrument.specs.Scenes.{Act, Happens, Admits, Arms, Drops, Hands, Sweeps, CanArm, CanDo, IsTurnOrSample, InstrumentScene, arms, does, frees, hands, hands_by, sweeps}
 use Rattle.instrument.specs.declared.entry.Entry.{Entry}
 use Rattle.instrument.specs.declared.entry.Entry.TheVariants.{WriteBase, WriteMini, LinkMini, LinkPoint, UnlinkMini, UnlinkPoint, Free}
 use Rattle.instrument.specs.declared.instrument.Instrument.{Instrument}
@@ -62,7 +62,7 @@ turns_no_arm i (events.LinkPoint p) t = absurd t
 turns_no_arm i (events.UnlinkPoint p) t = absurd t
 turns_no_arm i (events.Free p) t = absurd t
 
-frees_no_arm : (i : Placed) (b : Bool) (p : ℕ) (q : Placements) (s : Scene) → NoArm i (frees b p q s).events
+frees_no_arm : (i : Placed) (b : Bool) (p : ℕ) (q : Placements) (s : InstrumentScene) → NoArm i (frees b p q s).events
 frees_no_arm i true p q s = tt
 frees_no_arm i false p q s = ((λ e. absurd cc), tt)
 
@@ -75,27 +75,27 @@ entry_no_arm i c (UnlinkMini p m) q = absurd cc
 entry_no_arm i c (UnlinkPoint p m) q = absurd cc
 entry_no_arm i c (Free p) q = absurd cc
 
-by_no_arm : (i : Placed) (s : Scene) (o : Option ℕ) (e : Entry) → NoArm i (hands_by o e s).events
+by_no_arm : (i : Placed) (s : InstrumentScene) (o : Option ℕ) (e : Entry) → NoArm i (hands_by o e s).events
 by_no_arm i s None e = (entry_no_arm i s.core e, tt)
-by_no_arm i s (Some p) e = frees_no_arm i (is_barred s.core p) p (behind s.placer) s
+by_no_arm i s (Some p) e = frees_no_arm i (is_barred s.core p) p (after_first s.placer) s
 
-hands_no_arm : (i : Placed) (s : Scene) (o : Option Entry) → NoArm i (hands o s).events
+hands_no_arm : (i : Placed) (s : InstrumentScene) (o : Option Entry) → NoArm i (hands o s).events
 hands_no_arm i s None = tt
 hands_no_arm i s (Some e) = by_no_arm i s (freed_point e) e
 
-sweeps_no_arm : (i : Placed) (s : Scene) (o : Option ℕ) → NoArm i (sweeps o (free_behind s.placer) s).events
+sweeps_no_arm : (i : Placed) (s : InstrumentScene) (o : Option ℕ) → NoArm i (sweeps o (free_behind s.placer) s).events
 sweeps_no_arm i s None = tt
 sweeps_no_arm i s (Some p) = frees_no_arm i false p (free_behind s.placer) s
 
-arms_no_arm : (i : Placed) (s : Scene) (j : Instrument) → (j.placed ≡ i → ⊥) → (o : Option Instrument) → o ≡ Some j → NoArm i (arms o s).events
+arms_no_arm : (i : Placed) (s : InstrumentScene) (j : Instrument) → (j.placed ≡ i → ⊥) → (o : Option Instrument) → o ≡ Some j → NoArm i (arms o s).events
 arms_no_arm i s j n None e = absurd cc
 arms_no_arm i s j n (Some k) e = ((λ q. let p : k.placed ≡ i = cc in let z : k ≡ j = cc in n (ap (λ (x : Instrument). x.placed) (sym z) ∙ p)), tt)
 
 -- no instrument that can be armed acts where `i` does
-abbrev pub ArmsOther : Placed → Scene → Type 0
+abbrev pub ArmsOther : Placed → InstrumentScene → Type 0
 ArmsOther i s = (n : ℕ) (c : CanArm n s) → (c.instrument).placed ≡ i → ⊥
 
-pub act_no_arm : (i : Placed) (s : Scene) (a : Act) → CanDo a s → ArmsOther i s → NoArm i (does a s).events
+pub act_no_arm : (i : Placed) (s : InstrumentScene) (a : Act) → CanDo a s → ArmsOther i s → NoArm i (does a s).events
 act_no_arm i s (Happens e) c f = turns_no_arm i e c.0
 act_no_arm i s (Admits plan cost) c f = tt
 act_no_arm i s (Arms n) c f = arms_no_arm i s c.instrument (f n c) (instrument_at s.placer n) c.is

@@ -6,7 +6,7 @@ use Rattle.std.specs.Option.{option_map}
 use Rattle.std.proofs.lemmas.Bool.{true≢false, cases_Bool, and_parts, eqb-true}
 use Rattle.tramp_spec.specs.declared.block.Block.{Block}
 use Rattle.machine.specs.Cores.{Core}
-use Rattle.machine.specs.Effects.{after}
+use Rattle.machine.specs.Effects.{after_event}
 use Rattle.machine.specs.Events as events
 use Rattle.machine.specs.Events.{May}
 use Rattle.machine.specs.Places.{holds}
@@ -17,7 +17,7 @@ use Rattle.machine.proofs.KeptRows.{tool_high}
 use Rattle.instrument.specs.Books.{freed_point}
 use Rattle.instrument.specs.Handing.{event_of, is_barred}
 use Rattle.instrument.specs.Placements as placements
-use Rattle.instrument.specs.Placements.{Placements, behind, free_behind, free_front, put_back}
+use Rattle.instrument.specs.Placements.{Placements, after_first, free_behind, free_front, put_back}
 use Rattle.instrument.specs.Scenes.{Hands, Sweeps, frees, hands, hands_by, sweeps}
 use Rattle.instrument.specs.Shown.{shown}
 use Rattle.instrument.specs.declared.entry.Entry.{Entry}
@@ -28,13 +28,13 @@ use Rattle.instrument.proofs.Claims.{base_now}
 use Rattle.instrument.proofs.Going.{get_in, unbarred}
 use Rattle.instrument.proofs.Stages.{GoodMini, Ok, Sound, is_now, stage}
 use Rattle.instrumented.specs.Doing.{CanWriteMini, IsDoable, freed_core, freed_placements, machine_event, writes, writes_in}
-use Rattle.instrumented.specs.Instrumented.{Instrumented, done, in_scene, scene_of}
-use Rattle.instrumented.specs.Reached.{IsReached}
+use Rattle.instrumented.specs.Instrumented.{Instrumented, after_act, in_scene, scene_of}
+use Rattle.instrumented.specs.Reached.{IsReachedByActs}
 use Rattle.instrumented.proofs.Acts.{done_is, legal_next, whole_of}
 
 -- ---- what is handed out can be done
 
-module _ (m : Instrumented) (r : IsReached m) where
+module _ (m : Instrumented) (r : IsReachedByActs m) where
   -- the first entry of the agenda, where it is no Free
   may_first : (e : Entry) (es : List Entry) → m.placer.book.agenda ≡ e ∷ es → freed_point e ≡ None → May m.core (event_of m.core e)
   may_first e es is none =
@@ -121,26 +121,26 @@ none_is [] i = refl
 none_is (e ∷ es) i = absurd cc
 
 module _ (m : Instrumented) (event : Event) (f : First m.placer.book.agenda event) where
-  made : done Hands m ≡ in_scene (hands_by (freed_point f.entry) f.entry (scene_of m)).scene
+  made : after_act Hands m ≡ in_scene (hands_by (freed_point f.entry) f.entry (scene_of m)).scene
   made = done_is Hands m ∙ ap (λ (a : List Entry). in_scene (hands (placements.first_of a) (scene_of m)).scene) f.is
 
   -- an entry that is no Free
-  pub performed : is_free event ≡ false → done Hands m ≡ record { core = after m.core (machine_event m.core event); placer = behind m.placer }
+  pub performed : is_free event ≡ false → after_act Hands m ≡ record { core = after_event m.core (machine_event m.core event); placer = after_first m.placer }
   performed n =
       let free : freed_point f.entry ≡ None = no_free f.entry (ap is_free f.shows ∙ n) in
       made ∙ (ap (λ o. in_scene (hands_by o f.entry (scene_of m)).scene) free
-      ∙ ap (λ (e : events.Event). to (after m.core e)) (sym (same_event m.core f.entry) ∙ ap (machine_event m.core) f.shows))
+      ∙ ap (λ (e : events.Event). to (after_event m.core e)) (sym (same_event m.core f.entry) ∙ ap (machine_event m.core) f.shows))
     where
       to : Core → Instrumented
-      to c = record { core = c; placer = behind m.placer }
+      to c = record { core = c; placer = after_first m.placer }
 
-  pub can_perform : IsReached m → IsDoable m.core event
+  pub can_perform : IsReachedByActs m → IsDoable m.core event
   can_perform r = subst (IsDoable m.core) f.shows (doable m r f.entry f.rest f.is)
 
-  pub few_writes : writes event + writes_in (behind m.placer).book.agenda ≡ writes_in m.placer.book.agenda
+  pub few_writes : writes event + writes_in (after_first m.placer).book.agenda ≡ writes_in m.placer.book.agenda
   few_writes = by m.placer.book.agenda f.entry f.rest f.is f.shows
     where
-      by : (agenda : List Entry) (e : Entry) (es : List Entry) → agenda ≡ e ∷ es → shown e ≡ event → writes event + writes_in (placements.behind_first agenda (record { rooms = m.placer.book.rooms; agenda = agenda })).agenda ≡ writes_in agenda
+      by : (agenda : List Entry) (e : Entry) (es : List Entry) → agenda ≡ e ∷ es → shown e ≡ event → writes event + writes_in (placements.book_after agenda (record { rooms = m.placer.book.rooms; agenda = agenda })).agenda ≡ writes_in agenda
       by [] e es i s = absurd cc
       by (x ∷ xs) e es i s = let y : x ≡ e = cc in ap (λ (v : Event). writes v + writes_in xs) (sym s ∙ ap shown (sym y))
 
@@ -161,34 +161,34 @@ may_is c p false i = ⊎_elim (λ t. t) (λ f. absurd (true≢false (sym (i.1 (u
 
 -- a Free that is handed out
 module _ (m : Instrumented) (p : ℕ) (f : First m.placer.book.agenda (seen.Free p)) where
-  freed_by : (b : Bool) → in_scene (frees b p (behind m.placer) (scene_of m)).scene ≡ record { core = freed_core b p m.core; placer = freed_placements b p (behind m.placer) }
+  freed_by : (b : Bool) → in_scene (frees b p (after_first m.placer) (scene_of m)).scene ≡ record { core = freed_core b p m.core; placer = freed_placements b p (after_first m.placer) }
   freed_by true = refl
   freed_by false = refl
 
-  pub freed_is : done Hands m ≡ record { core = freed_core (is_barred m.core p) p m.core; placer = freed_placements (is_barred m.core p) p (behind m.placer) }
+  pub freed_is : after_act Hands m ≡ record { core = freed_core (is_barred m.core p) p m.core; placer = freed_placements (is_barred m.core p) p (after_first m.placer) }
   freed_is =
       made m (seen.Free p) f ∙ (ap (λ e. in_scene (hands_by (freed_point e) e (scene_of m)).scene) (free_entry f.entry p f.shows) ∙ freed_by (is_barred m.core p))
 
 -- where the agenda is empty, nothing is done
-pub none_done : (m : Instrumented) → m.placer.book.agenda ≡ [] → done Hands m ≡ m
+pub none_done : (m : Instrumented) → m.placer.book.agenda ≡ [] → after_act Hands m ≡ m
 none_done m e = done_is Hands m ∙ ap (λ (a : List Entry). in_scene (hands (placements.first_of a) (scene_of m)).scene) e
 
 -- ---- sweeping
 
-pub swept : (m : Instrumented) (p : ℕ) → Some p ≡ free_front m.placer → done Sweeps m ≡ record { core = after m.core (events.Free p); placer = placements.freed p (free_behind m.placer) }
+pub swept : (m : Instrumented) (p : ℕ) → Some p ≡ free_front m.placer → after_act Sweeps m ≡ record { core = after_event m.core (events.Free p); placer = placements.freed p (free_behind m.placer) }
 swept m p e = done_is Sweeps m ∙ ap (λ o. in_scene (sweeps o (free_behind m.placer) (scene_of m)).scene) (sym e)
 
-pub none_swept : (m : Instrumented) → None ≡ free_front m.placer → done Sweeps m ≡ record { core = m.core; placer = free_behind m.placer }
+pub none_swept : (m : Instrumented) → None ≡ free_front m.placer → after_act Sweeps m ≡ record { core = m.core; placer = free_behind m.placer }
 none_swept m e = done_is Sweeps m ∙ ap (λ o. in_scene (sweeps o (free_behind m.placer) (scene_of m)).scene) (sym e)
 
 -- ---- what freeing makes, by its result
 
-pub freed_core_by : (m n : Machine) (p : ℕ) (b : Bool) → (IsTrue b ↔ May m.core (events.Free p)) → n ≡ cond b (with_core m (after m.core (events.Free p))) m → n ≡ with_core m (freed_core (is_barred m.core p) p m.core)
+pub freed_core_by : (m n : Machine) (p : ℕ) (b : Bool) → (IsTrue b ↔ May m.core (events.Free p)) → n ≡ cond b (with_core m (after_event m.core (events.Free p))) m → n ≡ with_core m (freed_core (is_barred m.core p) p m.core)
 freed_core_by m n p true i e = e ∙ ap (λ x. with_core m (freed_core x p m.core)) (sym (may_is m.core p true i))
 freed_core_by m n p false i e = e ∙ ap (λ x. with_core m (freed_core x p m.core)) (sym (may_is m.core p false i))
 
-pub freed_rooms_by : (c : Core) (p : ℕ) (q after : Placements) → (IsTrue true ↔ May c (events.Free p)) → after ≡ placements.freed p q → after ≡ freed_placements (is_barred c p) p q
-freed_rooms_by c p q after i e = e ∙ ap (λ x. freed_placements x p q) (sym (may_is c p true i))
+pub freed_rooms_by : (c : Core) (p : ℕ) (q after_event : Placements) → (IsTrue true ↔ May c (events.Free p)) → after_event ≡ placements.freed p q → after_event ≡ freed_placements (is_barred c p) p q
+freed_rooms_by c p q after_event i e = e ∙ ap (λ x. freed_placements x p q) (sym (may_is c p true i))
 
-pub back_rooms_by : (c : Core) (p : ℕ) (q after : Placements) → (IsTrue false ↔ May c (events.Free p)) → after ≡ put_back p q → after ≡ freed_placements (is_barred c p) p q
-back_rooms_by c p q after i e = e ∙ ap (λ x. freed_placements x p q) (sym (may_is c p false i))
+pub back_rooms_by : (c : Core) (p : ℕ) (q after_event : Placements) → (IsTrue false ↔ May c (events.Free p)) → after_event ≡ put_back p q → after_event ≡ freed_placements (is_barred c p) p q
+back_rooms_by c p q after_event i e = e ∙ ap (λ x. freed_placements x p q) (sym (may_is c p false i))

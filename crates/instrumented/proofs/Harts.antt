@@ -6,7 +6,7 @@ use Rattle.rv_word.specs.Plain.{program_word}
 use Rattle.pn_types.specs.declared.placed.Placed.{Placed}
 use Rattle.tramp_spec.specs.Harts.{Hart}
 use Rattle.machine.specs.Cores.{Core, Row}
-use Rattle.machine.specs.Effects.{after, armed, mini_linked, mini_unlinked, point_linked, point_unlinked}
+use Rattle.machine.specs.Effects.{after_event, armed_hart, mini_linked, mini_unlinked, point_linked, point_unlinked}
 use Rattle.machine.specs.Events as events
 use Rattle.machine.specs.Events.{IsQuiet, before, current_base, row_at}
 use Rattle.machine.proofs.Arming.{get_map}
@@ -14,7 +14,7 @@ use Rattle.machine.proofs.Lists.{find_gives}
 use Rattle.instrument.specs.Books.{freed_point}
 use Rattle.instrument.specs.Handing.{event_of, is_barred}
 use Rattle.instrument.specs.Placements as placements
-use Rattle.instrument.specs.Placements.{Placements, behind, front, instrument_at, state_in, state_of, with_state}
+use Rattle.instrument.specs.Placements.{Placements, after_first, front, instrument_at, state_in, state_of, with_state}
 use Rattle.instrument.specs.Scenes.{Hands, frees, hands, hands_by}
 use Rattle.instrument.specs.declared.entry.Entry.{Entry}
 use Rattle.instrument.specs.declared.entry.Entry.TheVariants.{WriteBase, WriteMini, LinkMini, LinkPoint, UnlinkMini, UnlinkPoint, Free}
@@ -23,7 +23,7 @@ use Rattle.instrument.specs.declared.event.Event.TheVariants as seen
 use Rattle.instrument.specs.declared.instrument.Instrument.{Instrument}
 use Rattle.instrument.specs.declared.number.State.TheVariants.{Armed}
 use Rattle.instrumented.specs.Doing.{freed_core, handed_core}
-use Rattle.instrumented.specs.Instrumented.{Instrumented, done, in_scene, scene_of}
+use Rattle.instrumented.specs.Instrumented.{Instrumented, after_act, in_scene, scene_of}
 use Rattle.instrumented.proofs.Acts.{done_is}
 
 -- ---- entries of the agenda
@@ -45,7 +45,7 @@ own_same : (o : Option ℕ) (p : ℕ) (c : Core) → (point_unlinked o p c).hart
 own_same None p c = refl
 own_same (Some w) p c = refl
 
-entry_same : (e : Entry) (c : Core) → (after c (event_of c e)).harts ≡ c.harts
+entry_same : (e : Entry) (c : Core) → (after_event c (event_of c e)).harts ≡ c.harts
 entry_same (WriteBase b) c = refl
 entry_same (WriteMini b) c = refl
 entry_same (LinkMini p m) c = mini_same (current_base c.rows p) m c
@@ -54,14 +54,14 @@ entry_same (UnlinkMini p m) c = unlinked_same (before c m) (row_at c.rows m) m c
 entry_same (UnlinkPoint p m) c = own_same (program_word c.program p) p c
 entry_same (Free p) c = refl
 
-pub hands_same : (m : Instrumented) → (done Hands m).core.harts ≡ m.core.harts
+pub hands_same : (m : Instrumented) → (after_act Hands m).core.harts ≡ m.core.harts
 hands_same m = ap (λ (d : Instrumented). d.core.harts) (done_is Hands m) ∙ by (front m.placer)
   where
     by_point : (o : Option ℕ) (e : Entry) → (in_scene (hands_by o e (scene_of m)).scene).core.harts ≡ m.core.harts
     by_point None e = entry_same e m.core
     by_point (Some p) e = free (is_barred m.core p)
       where
-        free : (b : Bool) → (in_scene (frees b p (behind m.placer) (scene_of m)).scene).core.harts ≡ m.core.harts
+        free : (b : Bool) → (in_scene (frees b p (after_first m.placer) (scene_of m)).scene).core.harts ≡ m.core.harts
         free true = refl
         free false = refl
 
@@ -84,8 +84,8 @@ handed_same (seen.Free p) c = freed_same (is_barred c p) p c
 
 -- ---- an arming
 
-pub quiet_armed : (i : Placed) (c : Core) → IsQuiet c → IsQuiet (after c (events.Arm i))
-quiet_armed i c q h y e = let k = get_map (armed c i) c.harts h y e in ap (λ (z : Hart). z.inside) k.2 ∙ q h k.0 k.1
+pub quiet_armed : (i : Placed) (c : Core) → IsQuiet c → IsQuiet (after_event c (events.Arm i))
+quiet_armed i c q h y e = let k = get_map (armed_hart c i) c.harts h y e in ap (λ (z : Hart). z.inside) k.2 ∙ q h k.0 k.1
 
 found_armed : (n : ℕ) (is : List Instrument) (i : Instrument) → find (λ (x : Instrument). x.no == n) is ≡ Some i → find (λ (x : Instrument). x.no == n) (map (with_state n Armed) is) ≡ Some (with_state n Armed i)
 found_armed n [] i e = absurd cc
@@ -97,5 +97,5 @@ found_armed n (x ∷ xs) i e = by (x.no == n) e (found_armed n xs i)
     by true e ih = let same : x ≡ i = cc in ap (λ (y : Instrument). Some (with_state n Armed y)) same
     by false e ih = ih e
 
-pub state_armed : (p : Placements) (n : ℕ) (i : Instrument) → instrument_at p n ≡ Some i → state_of (placements.armed n p) n ≡ Armed
+pub state_armed : (p : Placements) (n : ℕ) (i : Instrument) → instrument_at p n ≡ Some i → state_of (placements.with_armed n p) n ≡ Armed
 state_armed p n i e = ap state_in (found_armed n p.instruments i e) ∙ cond-true (i.no == n) Armed i.state (find_gives (λ (x : Instrument). x.no == n) p.instruments i e).1

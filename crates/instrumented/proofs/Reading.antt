@@ -13,7 +13,7 @@ use Rattle.rv_mem.specs.Start.{program_of}
 use Rattle.rv_exec.specs.Start.{start}
 use Rattle.tramp_spec.specs.Slots.{places, places_of, IsSlotOf, ShareNone, width}
 use Rattle.machine.specs.Cores.{In, Core, start_core}
-use Rattle.machine.specs.Effects.{after}
+use Rattle.machine.specs.Effects.{after_event}
 use Rattle.machine.specs.Events as events
 use Rattle.machine.specs.Events.{Event, IsQuiet}
 use Rattle.machine.specs.Instruments.{AllLet, Carries, CarriesSites, InForce, IsSpared}
@@ -24,12 +24,12 @@ use Rattle.machine.specs.Replays.{owns, replay}
 use Rattle.machine.proofs.Lists.{map_in}
 use Rattle.machine.proofs.Readings.{readings_measure}
 use Rattle.instrument.specs.Placements.{with_state}
-use Rattle.instrument.specs.Scenes.{Act, Arms, AllCanDo, CanArm, Scene, arms, does, events_of, first_scene, scene_after}
+use Rattle.instrument.specs.Scenes.{Act, Arms, AllCanDo, CanArm, InstrumentScene, arms, does, events_of, first_scene, scene_after}
 use Rattle.instrument.specs.declared.instrument.Instrument.{Instrument}
 use Rattle.instrument.specs.declared.number.State.TheVariants.{Placing, Armed}
 use Rattle.instrument.proofs.Armings.{found_at}
 use Rattle.instrument.proofs.Lawful.{always, force_always, legal_always}
-use Rattle.instrumented.specs.Readings.{Course, IsReadable, Opening, ReadsMeasure, owns_at, scene_at, time_at, to_arming, to_earlier, to_later}
+use Rattle.instrumented.specs.Readings.{Course, CanBeRead, Opening, ReadsMeasure, owns_at, scene_at, time_at, to_arming, to_earlier, to_later}
 use Rattle.instrument.proofs.Folds.{append_nil}
 use Rattle.instrument.proofs.Wholes.{Whole}
 use Rattle.instrumented.proofs.Acts.{can_first, can_rest, events_append, scene_append}
@@ -53,8 +53,8 @@ shares i many some none = let q = first_place i.slots i.vars many some in none q
 
 -- ---- the course of an instrument
 
-module _ (o : Opening) (n : ℕ) (plan : Plan) (c : Course) (p : IsProgram o.image) (r : IsReadable o n plan c) (some : 0 < length plan.vars) where
-  abbrev opened : Scene
+module _ (o : Opening) (n : ℕ) (plan : Plan) (c : Course) (p : IsProgram o.image) (r : CanBeRead o n plan c) (some : 0 < length plan.vars) where
+  abbrev opened : InstrumentScene
   opened = first_scene o.image o.harts o.budget o.limit
 
   abbrev begun : Core
@@ -92,7 +92,7 @@ module _ (o : Opening) (n : ℕ) (plan : Plan) (c : Course) (p : IsProgram o.ima
   now_armed = cond-true (i.no == i.no) Armed i.state (eq-eqb i.no i.no refl)
 
   now_listed : In now (scene_at o (to_arming n c)).placer.instruments
-  now_listed = subst (λ (s : Scene). In now s.placer.instruments) (sym arming_is) (map_in (with_state i.no Armed) (scene_at o c.before).placer.instruments i found.0)
+  now_listed = subst (λ (s : InstrumentScene). In now s.placer.instruments) (sym arming_is) (map_in (with_state i.no Armed) (scene_at o c.before).placer.instruments i found.0)
 
   low : n < (scene_at o (to_arming n c)).placer.count
   low =
@@ -159,7 +159,7 @@ module _ (o : Opening) (n : ℕ) (plan : Plan) (c : Course) (p : IsProgram o.ima
   all_can : AllCanDo ((to_arming n c ++ []) ++ (c.first ++ c.rest)) opened
   all_can = subst (λ l. AllCanDo l opened) (append_assoc (to_arming n c) c.first c.rest ∙ ap (λ l. l ++ (c.first ++ c.rest)) (sym (append_nil (to_arming n c)))) r.can
 
-  abbrev armed_at : Scene
+  abbrev armed_at : InstrumentScene
   armed_at = scene_at o (to_arming n c)
 
   -- the events since
@@ -178,7 +178,7 @@ module _ (o : Opening) (n : ℕ) (plan : Plan) (c : Course) (p : IsProgram o.ima
   not_again : NoArm last.placed (firsts ++ rests)
   not_again =
       let nil : to_arming n c ++ [] ≡ to_arming n c = append_nil (to_arming n c) in
-      let h = subst (λ (s : Scene). In last s.placer.instruments) at_end r.listed in
+      let h = subst (λ (s : InstrumentScene). In last s.placer.instruments) at_end r.listed in
       let h2 = subst (λ l. In last (scene_after (c.first ++ c.rest) (scene_at o l)).placer.instruments) (sym nil) h in
       subst (NoArm last.placed) since_is
       (subst (λ l. NoArm last.placed (events_of (c.first ++ c.rest) (scene_at o l))) nil (no_arms [] (c.first ++ c.rest) all_can h2))
@@ -192,7 +192,7 @@ module _ (o : Opening) (n : ℕ) (plan : Plan) (c : Course) (p : IsProgram o.ima
       let num = r.number in
       let end : scene_after (Arms n ∷ (c.first ++ c.rest)) (scene_at o c.before) ≡ scene_at o (to_later n c) =
       sym (scene_append (Arms n ∷ []) (c.first ++ c.rest) (scene_at o c.before)) ∙ (ap (scene_after (c.first ++ c.rest)) (sym (scene_append c.before (Arms n ∷ []) opened)) ∙ sym at_end) in
-      let j = stay.listed last (subst (λ (s : Scene). In last s.placer.instruments) (sym end) r.listed) (omega arith) in
+      let j = stay.listed last (subst (λ (s : InstrumentScene). In last s.placer.instruments) (sym end) r.listed) (omega arith) in
       ap (λ (x : Instrument). x.placed) (w.single i j.i found.0 j.listed (found.1 ∙ (sym r.number ∙ sym j.no))) ∙ j.placed
 
   arming_events : events_of (to_arming n c) opened ≡ events_of c.before opened ++ events.Arm last.placed ∷ []
@@ -216,7 +216,7 @@ module _ (o : Opening) (n : ℕ) (plan : Plan) (c : Course) (p : IsProgram o.ima
       record { before = events_of c.before opened; since = firsts ++ rests; is = later_events; spared = subst (λ es. IsSpared (replay es begun) last.placed) s.fronts f.spared; lets = subst (AllLet last.placed) s.backs f.lets }
 
   -- arming leaves the blocks
-  carries_before : (d : Core) (j : Placed) (slots : List ℕ) (sites : List PlacedSite) (qs : List Site) → CarriesSites (after d (events.Arm j)) slots sites qs → CarriesSites d slots sites qs
+  carries_before : (d : Core) (j : Placed) (slots : List ℕ) (sites : List PlacedSite) (qs : List Site) → CarriesSites (after_event d (events.Arm j)) slots sites qs → CarriesSites d slots sites qs
   carries_before d j slots [] [] k = tt
   carries_before d j slots (s ∷ ss) (q ∷ qs) k =
       (k.0, record { row = (k.1).row; listed = (k.1).listed; mini = (k.1).mini; point = (k.1).point; at = (k.1).at; is = (k.1).is }, carries_before d j slots ss qs k.2)
@@ -233,7 +233,7 @@ module _ (o : Opening) (n : ℕ) (plan : Plan) (c : Course) (p : IsProgram o.ima
       let stay : Stay armed_at (scene_at o (to_later n c)) = subst (Stay armed_at) (sym at_end) (acts_stay (c.first ++ c.rest) armed_at) in
       let e : Some k.0 ≡ Some plan = sym (stay.plans i.no k.0 k.1) ∙ (ap (slice_get (scene_at o (to_later n c)).plans) found.1 ∙ r.planned) in
       let q : k.0 ≡ plan = cc in
-      let a : Carries (after d (events.Arm i.placed)) i.placed plan = subst (Carries (after d (events.Arm i.placed)) i.placed) q (subst (λ (s : Scene). Carries s.core i.placed k.0) arming_is k.2) in
+      let a : Carries (after_event d (events.Arm i.placed)) i.placed plan = subst (Carries (after_event d (events.Arm i.placed)) i.placed) q (subst (λ (s : InstrumentScene). Carries s.core i.placed k.0) arming_is k.2) in
       let b : Carries d i.placed plan = record { vars = a.vars; many = a.many; places = a.places; sites = carries_before d i.placed (i.placed).slots (i.placed).sites plan.sites a.sites; opens = a.opens } in
       subst (λ x. Carries (replay (events_of c.before opened) begun) x plan) placed_is (subst (λ x. Carries x i.placed plan) before_core b)
 

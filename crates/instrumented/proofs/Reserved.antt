@@ -10,9 +10,9 @@ use Rattle.instrument.specs.Needs.{need_of, sites_in}
 use Rattle.instrument.specs.Placers.{PlacerData}
 use Rattle.instrument.specs.declared.entry.Entry.{Entry}
 use Rattle.instrument.specs.declared.entry.Entry.TheVariants.{WriteBase, WriteMini, LinkMini, LinkPoint, UnlinkMini, UnlinkPoint, Free}
-use Rattle.instrumented.specs.Data.{IsSound, state_of}
+use Rattle.instrumented.specs.Data.{AreReached, state_of}
 use Rattle.instrumented.specs.Doing.{writes_in}
-use Rattle.instrumented.specs.Reached.{IsReached}
+use Rattle.instrumented.specs.Reached.{IsReachedByActs}
 
 -- the sites of the plans from a place on
 abbrev pub sites_from : ℕ → List Plan → ℕ
@@ -52,13 +52,13 @@ ready_few : (plans : List Plan) (q : PlacerData) (r : Result (Unit {0}) AllocErr
 ready_few plans q (Ok u) ok err = let e = ap sites_in ok in omega arith
 ready_few plans q (Err x) ok err = let e = ap sites_in err in omega arith
 
-pub reserved : (m n : Machine) (p q : PlacerData) (plans : List Plan) (blocks beside : ℕ) (r : Result (Unit {0}) AllocError) → IsSound m p → n ≡ record m { room = max blocks m.room }
+pub reserved : (m n : Machine) (p q : PlacerData) (plans : List Plan) (blocks beside : ℕ) (r : Result (Unit {0}) AllocError) → AreReached m p → n ≡ record m { room = max blocks m.room }
     → beside ≡ length p.placements.book.agenda → beside + 2 * sites_in (map need_of plans) ≤ blocks
-    → q.placements ≡ p.placements → OnOk r (q.ready ≡ map need_of plans) → OnErr r (q.ready ≡ []) → IsSound n q
+    → q.placements ≡ p.placements → OnOk r (q.ready ≡ map need_of plans) → OnErr r (q.ready ≡ []) → AreReached n q
 reserved m n p q plans blocks beside r s e agenda room placements ok err =
     let is : state_of n q ≡ state_of m p = ap (λ (x : Machine). record { core = x.core; placer = q.placements }) e ∙ ap (λ x. record { core = m.core; placer = x }) placements in
     let few = few_writes p.placements.book.agenda in
     let ready = ready_few plans q r ok err in
     let same = ap (λ (x : _). writes_in x.book.agenda) placements in
     let now = ap (λ (x : Machine). x.room) e in
-    record { reached = subst IsReached (sym is) s.reached; room = omega arith }
+    record { reached = subst IsReachedByActs (sym is) s.reached; room = omega arith }

@@ -4,7 +4,7 @@ use Rattle.machine.specs.States.{Machine}
 use Rattle.instrument.specs.Needs.{Need, sites_in}
 use Rattle.instrument.specs.Placers.{PlacerData}
 use Rattle.instrumented.specs.Instrumented.{Instrumented}
-use Rattle.instrumented.specs.Reached.{IsReached}
+use Rattle.instrumented.specs.Reached.{IsReachedByActs}
 use Rattle.instrumented.specs.Doing.{writes_in}
 
 pub record InstrumentedData : Type 0 where
@@ -20,6 +20,6 @@ abbrev pub data_of : Machine → PlacerData → InstrumentedData
 data_of machine placer = record { state = state_of machine placer; ready = placer.ready }
 
 -- acts lead to both, and the machine has room for all blocks that are to be written, and for two at each site of what is ready
-pub record IsSound (machine : Machine) (placer : PlacerData) : Type 0 where
-  pub reached : IsReached (state_of machine placer)
+pub record AreReached (machine : Machine) (placer : PlacerData) : Type 0 where
+  pub reached : IsReachedByActs (state_of machine placer)
   pub room : writes_in placer.placements.book.agenda + 2 * sites_in placer.ready ≤ machine.room

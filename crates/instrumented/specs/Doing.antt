@@ -2,7 +2,7 @@
 use Rattle.std.specs.Prelude.{ℕ, ◌+◌, ◌*◌, ◌<◌, ◌^◌, IsSome, Bool, true, false, List, [], ◌∷◌, length}
 use Rattle.tramp_spec.specs.declared.block.Block.{Block}
 use Rattle.machine.specs.Cores.{Core}
-use Rattle.machine.specs.Effects.{after}
+use Rattle.machine.specs.Effects.{after_event}
 use Rattle.machine.specs.Events as events
 use Rattle.machine.specs.Events.{May, MayWrite, current_base}
 use Rattle.instrument.specs.Handing.{head_of, is_barred, leading}
@@ -63,7 +63,7 @@ IsDoable c (Free p) = Unit {0}
 
 abbrev pub freed_core : Bool → ℕ → Core → Core
 freed_core true p c = c
-freed_core false p c = after c (events.Free p)
+freed_core false p c = after_event c (events.Free p)
 
 abbrev pub freed_placements : Bool → ℕ → Placements → Placements
 freed_placements true p q = put_back p q
@@ -72,12 +72,12 @@ freed_placements false p q = freed p q
 -- ---- what doing it makes
 
 abbrev pub handed_core : Core → Event → Core
-handed_core c (WriteBase b) = after c (events.Write b)
-handed_core c (WriteMini b) = after c (events.Write (led c b))
-handed_core c (LinkMini p m) = after c (events.LinkMini p m)
-handed_core c (LinkPoint p) = after c (events.LinkPoint p)
-handed_core c (UnlinkMini p m) = after c (events.UnlinkMini p m)
-handed_core c (UnlinkPoint p) = after c (events.UnlinkPoint p)
+handed_core c (WriteBase b) = after_event c (events.Write b)
+handed_core c (WriteMini b) = after_event c (events.Write (led c b))
+handed_core c (LinkMini p m) = after_event c (events.LinkMini p m)
+handed_core c (LinkPoint p) = after_event c (events.LinkPoint p)
+handed_core c (UnlinkMini p m) = after_event c (events.UnlinkMini p m)
+handed_core c (UnlinkPoint p) = after_event c (events.UnlinkPoint p)
 handed_core c (Free p) = freed_core (is_barred c p) p c
 
 abbrev pub handed_placements : Core → Event → Placements → Placements

@@ -7,7 +7,7 @@ use Rattle.machine.specs.Cores.{Core, start_core}
 use Rattle.machine.specs.Events.{Event}
 use Rattle.machine.specs.LinkedSites.{is_site_linked}
 use Rattle.instrument.specs.Placements.{Placements, instrument_at, no_placements}
-use Rattle.instrument.specs.Scenes.{Act, Happens, Scene, does}
+use Rattle.instrument.specs.Scenes.{Act, Happens, InstrumentScene, does}
 use Rattle.instrument.specs.declared.instrument.Instrument.{Instrument}
 
 -- the machine's state, and where its instruments are
@@ -22,32 +22,32 @@ first_instrumented image harts budget limit = record { core = start_core image h
 -- ---- acts
 
 -- the scene with these plans of the instruments that were admitted
-abbrev pub scene_with : List Plan → Instrumented → Scene
+abbrev pub scene_with : List Plan → Instrumented → InstrumentScene
 scene_with plans m = record { core = m.core; placer = m.placer; plans = plans }
 
 -- no act needs the plans that were admitted before
-abbrev pub scene_of : Instrumented → Scene
+abbrev pub scene_of : Instrumented → InstrumentScene
 scene_of m = scene_with [] m
 
-abbrev pub in_scene : Scene → Instrumented
+abbrev pub in_scene : InstrumentScene → Instrumented
 in_scene s = record { core = s.core; placer = s.placer }
 
 -- The machine and its instruments after an act.
-unfoldable pub done : Act → Instrumented → Instrumented
-done a m = in_scene (does a (scene_of m)).scene
+unfoldable pub after_act : Act → Instrumented → Instrumented
+after_act a m = in_scene (does a (scene_of m)).scene
 
 abbrev pub all_done : List Act → Instrumented → Instrumented
 all_done [] m = m
-all_done (a ∷ acts) m = all_done acts (done a m)
+all_done (a ∷ acts) m = all_done acts (after_act a m)
 
 -- these turns of harts happen, one after another
-abbrev pub taken : List Event → Instrumented → Instrumented
-taken turns m = all_done (map Happens turns) m
+abbrev pub after_turns : List Event → Instrumented → Instrumented
+after_turns turns m = all_done (map Happens turns) m
 
 -- the same act, a number of times
 abbrev pub repeated : ℕ → Act → Instrumented → Instrumented
 repeated zero a m = m
-repeated (suc n) a m = repeated n a (done a m)
+repeated (suc n) a m = repeated n a (after_act a m)
 
 -- ---- sites
 

@@ -13,7 +13,7 @@ pub record Leads (image : Image) (harts budget limit : ℕ) (acts : List Act) (m
   pub scene : scene_after acts (first_scene image harts budget limit) ≡ scene_with plans m
 
 -- some acts lead to it
-pub record IsReached (m : Instrumented) : Type 0 where
+pub record IsReachedByActs (m : Instrumented) : Type 0 where
   pub image : Image
   pub harts : ℕ
   pub budget : ℕ

@@ -13,7 +13,7 @@ use Rattle.machine.specs.Laws.{IsProgram}
 use Rattle.machine.specs.Measures.{difference, measure}
 use Rattle.machine.specs.Readings.{readings}
 use Rattle.machine.specs.Replays.{owns}
-use Rattle.instrument.specs.Scenes.{Act, Arms, AllCanDo, Scene, events_of, first_scene, scene_after}
+use Rattle.instrument.specs.Scenes.{Act, Arms, AllCanDo, InstrumentScene, events_of, first_scene, scene_after}
 use Rattle.instrument.specs.declared.instrument.Instrument.{Instrument}
 use Rattle.instrument.specs.declared.number.State.TheVariants.{Armed}
 
@@ -24,7 +24,7 @@ pub record Opening : Type 0 where
   pub budget : ℕ
   pub limit : ℕ
 
-abbrev pub scene_at : Opening → List Act → Scene
+abbrev pub scene_at : Opening → List Act → InstrumentScene
 scene_at o acts = scene_after acts (first_scene o.image o.harts o.budget o.limit)
 
 -- the program's own run after these acts, and the time
@@ -50,7 +50,7 @@ abbrev pub to_later : ℕ → Course → List Act
 to_later n c = to_earlier n c ++ c.rest
 
 -- Instrument n has a plan, and is armed to the later moment; at both moments no hart is inside a trampoline.
-pub record IsReadable (o : Opening) (n : ℕ) (plan : Plan) (c : Course) : Type 0 where
+pub record CanBeRead (o : Opening) (n : ℕ) (plan : Plan) (c : Course) : Type 0 where
   pub can : AllCanDo (to_later n c) (first_scene o.image o.harts o.budget o.limit)
   pub instrument : Instrument
   pub listed : In instrument (scene_at o (to_later n c)).placer.instruments
@@ -64,7 +64,7 @@ pub record IsReadable (o : Opening) (n : ℕ) (plan : Plan) (c : Course) : Type 
 abbrev pub ReadsMeasure : Type 0
 ReadsMeasure =
     (o : Opening) (n : ℕ) (plan : Plan) (harts : List ℕ) (c : Course)
-    → IsProgram o.image → o.budget ≤ MAX_BUDGET → IsMeasurable plan → 0 < length plan.vars → (r : IsReadable o n plan c)
+    → IsProgram o.image → o.budget ≤ MAX_BUDGET → IsMeasurable plan → 0 < length plan.vars → (r : CanBeRead o n plan c)
     → difference (readings (r.instrument).placed harts (scene_at o (to_earlier n c)).core)
     (readings (r.instrument).placed harts (scene_at o (to_later n c)).core)
     ≡ measure (program_of o.image) plan harts

@@ -9,7 +9,7 @@ ghost use Rattle.instrument.specs.Armable.{IsArmable};
 ghost use Rattle.instrument.specs.Needs.{need_of, sites_in, without};
 ghost use Rattle.instrument.specs.Placements.{admission};
 ghost use Rattle.instrument.specs.Scenes.{Admits, IsPlanFor};
-ghost use Rattle.instrumented.specs.Instrumented.{done};
+ghost use Rattle.instrumented.specs.Instrumented.{after_act};
 
 use crate::instrumented_machine::InstrumentedMachine;
 use instrument::{InstrumentNo, Refused};
@@ -70,7 +70,7 @@ impl InstrumentedMachine {
         ensures number { IfOk result (λ number. number.n ≡ self.old.state.placer.count) }
         ensures ok { OnOk result (admission self.old.state.placer plan.now cost ≡ Ok self.new.state.placer) }
         ensures refused { IfErr result (λ refused. admission self.old.state.placer plan.now cost ≡ Err refused) }
-        ensures state { self.new.state ≡ done (Admits plan.now cost) self.old.state }
+        ensures state { self.new.state ≡ after_act (Admits plan.now cost) self.old.state }
         ensures core { self.new.state.core ≡ self.old.state.core }
         ensures ready { self.new.ready ≡ without (need_of plan.now) self.old.ready }
     {

@@ -7,7 +7,7 @@ ghost use Rattle.machine.specs.Readings.{readings};
 ghost use Rattle.instrument.specs.Placements.{instrument_at, state_of};
 ghost use Rattle.instrument.specs.Scenes.{Arms, Drops};
 ghost use Rattle.instrument.specs.declared.number.State.TheVariants.{Armed, Gone, Placing};
-ghost use Rattle.instrumented.specs.Instrumented.{done, is_linked};
+ghost use Rattle.instrumented.specs.Instrumented.{after_act, is_linked};
 ghost use Rattle.instrumented.specs.Sums.{sum_from};
 
 use crate::instrumented_machine::InstrumentedMachine;
@@ -34,7 +34,7 @@ impl InstrumentedMachine {
         requires quiet { IsQuiet self.old.state.core }
         requires placing { state_of self.old.state.placer number.n ≡ Placing }
         ensures linked { result ≡ is_linked self.old.state number.n }
-        ensures state { self.new ≡ record self.old { state = if result then done (Arms number.n) self.old.state else self.old.state } }
+        ensures state { self.new ≡ record self.old { state = if result then after_act (Arms number.n) self.old.state else self.old.state } }
         ensures armed { IsTrue result → state_of self.new.state.placer number.n ≡ Armed }
         ensures quiet { IsQuiet self.new.state.core }
         ensures harts { length self.new.state.core.harts ≡ length self.old.state.core.harts }
@@ -64,7 +64,7 @@ impl InstrumentedMachine {
     /// Drops an instrument that wasn't dropped: the unlinking of its sites is put into the agenda. It takes no memory.
     pub fn drop(&mut self, number: InstrumentNo)
         requires { (state_of self.old.state.placer number.n ≡ Placing) ⊎ (state_of self.old.state.placer number.n ≡ Armed) }
-        ensures state { self.new ≡ record self.old { state = done (Drops number.n) self.old.state } }
+        ensures state { self.new ≡ record self.old { state = after_act (Drops number.n) self.old.state } }
         ensures core { self.new.state.core ≡ self.old.state.core }
     {
         self.placer.drop(number);

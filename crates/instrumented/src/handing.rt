@@ -1,14 +1,14 @@
 //! Hands out the agenda and does its entries.
 
 ghost use Rattle.std.specs.Prelude.{◌≡◌, ◌-◌, ◌<◌, ◌≤◌, IsFalse, is_some};
-ghost use Rattle.machine.specs.Effects.{after};
+ghost use Rattle.machine.specs.Effects.{after_event};
 ghost use Rattle.machine.specs.Events as events;
 ghost use Rattle.machine.specs.Events.{IsQuiet};
 ghost use Rattle.machine.specs.States.{with_core};
 ghost use Rattle.instrument.specs.Handing.{is_barred};
 ghost use Rattle.instrument.specs.Placements.{free_front};
 ghost use Rattle.instrument.specs.Scenes.{Hands, Sweeps};
-ghost use Rattle.instrumented.specs.Instrumented.{done};
+ghost use Rattle.instrumented.specs.Instrumented.{after_act};
 ghost use Rattle.instrumented.specs.Doing.{CanWriteMini, IsDoable, freed_core, freed_placements, handed_core, handed_placements, led, writes};
 
 use crate::instrumented_machine::InstrumentedMachine;
@@ -22,7 +22,7 @@ fn write_mini(machine: &mut Machine, mut block: Block)
     requires may { CanWriteMini machine.old.core block }
     requires room { 0 < machine.old.room }
     ensures { machine.new ≡ record {
-      core = after machine.old.core (events.Write (led machine.old.core block));
+      core = after_event machine.old.core (events.Write (led machine.old.core block));
       room = machine.old.room - 1;
     } }
 {
@@ -71,7 +71,7 @@ impl InstrumentedMachine {
     /// Hands out the first entry of the agenda and does it. A Free that a hart bars goes to the back. Where the agenda is empty
     /// nothing happens. It takes no memory.
     pub fn hand(&mut self)
-        ensures state { self.new ≡ record self.old { state = done Hands self.old.state } }
+        ensures state { self.new ≡ record self.old { state = after_act Hands self.old.state } }
         ensures harts { self.new.state.core.harts ≡ self.old.state.core.harts }
     {
         if let Some(event) = self.placer.next() {
@@ -85,7 +85,7 @@ impl InstrumentedMachine {
         requires { IsQuiet self.old.state.core }
         ensures found { result ≡ is_some (free_front self.old.state.placer) }
         ensures none { IsFalse result → self.new ≡ self.old }
-        ensures state { self.new ≡ record self.old { state = done Sweeps self.old.state } }
+        ensures state { self.new ≡ record self.old { state = after_act Sweeps self.old.state } }
         ensures harts { self.new.state.core.harts ≡ self.old.state.core.harts }
     {
         let Some(point) = self.placer.next_free() else {

@@ -32,7 +32,7 @@ pub struct InstrumentedMachine {
 }
 
 impl Model for InstrumentedMachine {
-    ghost use Rattle.instrumented.specs.Data.{InstrumentedData, IsSound, data_of};
+    ghost use Rattle.instrumented.specs.Data.{InstrumentedData, AreReached, data_of};
     ghost use Rattle.machine.specs.Codes.{core_code};
     ghost use Rattle.std.specs.Coded.{codes};
 
@@ -42,7 +42,7 @@ impl Model for InstrumentedMachine {
 
     ghost view = { λ m. data_of m.machine m.placer };
 
-    ghost invariant = { λ m. IsSound m.machine m.placer };
+    ghost invariant = { λ m. AreReached m.machine m.placer };
 }
 
 impl InstrumentedMachine {

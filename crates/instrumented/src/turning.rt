@@ -5,7 +5,7 @@ ghost use Rattle.machine.specs.Events.{IsQuiet};
 ghost use Rattle.machine.specs.Quanta.{KeepsBudget};
 ghost use Rattle.machine.specs.Replays.{owns};
 ghost use Rattle.machine.specs.States.{quantum_turns, settling};
-ghost use Rattle.instrumented.specs.Instrumented.{taken};
+ghost use Rattle.instrumented.specs.Instrumented.{after_turns};
 
 use crate::instrumented_machine::InstrumentedMachine;
 use machine::Taken;
@@ -15,7 +15,7 @@ impl InstrumentedMachine {
     /// Lets the hart take turns, at most `most`, as long as it is runnable. It takes no memory.
     pub fn take_turns(&mut self, hart: HartNo, most: u32) -> Taken
         requires { hart < length self.old.state.core.harts }
-        ensures taken { self.new ≡ record self.old { state = taken (quantum_turns most hart self.old.state.core) self.old.state } }
+        ensures taken { self.new ≡ record self.old { state = after_turns (quantum_turns most hart self.old.state.core) self.old.state } }
         ensures turns { result.turns ≡ length (quantum_turns most hart self.old.state.core) }
         ensures ticks { result.ticks ≡ length (owns (quantum_turns most hart self.old.state.core) self.old.state.core) }
         ensures budget { KeepsBudget self.new.state.core }
@@ -27,7 +27,7 @@ impl InstrumentedMachine {
     /// Lets each hart that is inside a trampoline, by number, take turns until it is outside or stopped. Returns how many turns
     /// these were. Then no hart is inside. It takes no memory.
     pub fn take_settling(&mut self) -> Taken
-        ensures settled { self.new ≡ record self.old { state = taken (settling self.old.state.core) self.old.state } }
+        ensures settled { self.new ≡ record self.old { state = after_turns (settling self.old.state.core) self.old.state } }
         ensures turns { result.turns ≡ length (settling self.old.state.core) }
         ensures ticks { result.ticks ≡ length (owns (settling self.old.state.core) self.old.state.core) }
         ensures quiet { IsQuiet self.new.state.core }

@@ -16,8 +16,8 @@ use Rattle.live_run.specs.declared.view.Book.{Book}
 use Rattle.live_run.specs.declared.view.View.{View}
 use Rattle.std.specs.List.{AllByRecursion}
 use Rattle.live_run.specs.Receipts.{receipt, receipts_of}
-use Rattle.live_run.specs.Rule.{IsEntering, IsFitting, IsNoted, IsNoting, IsRuled}
-use Rattle.live_run.specs.Views.{book_alone, entered, hired, hiring, keeping, longer, note, noting, together, without_book, working, writing}
+use Rattle.live_run.specs.Rule.{IsEntering, IsFitting, IsHaltNote, IsNoting, IsRuled}
+use Rattle.live_run.specs.Views.{book_alone, with_quantum_entry, hired, hiring, keeping, longer, note, noting, together, without_book, working, writing}
 use Rattle.live_run.proofs.Entries.{each_map, each_append, one_of, not_of, numbers_below, take_longer, take_whole}
 use Rattle.live_run.proofs.Owners.{owned_set, placed}
 use Rattle.live_run.proofs.Keeping.{hires, parts}
@@ -35,12 +35,12 @@ enters inputs first slots id b o ns q old long his s k homes at small =
     let mine_list = mine.lists.0 in
     let book = longer q k.book in
     let size : length k.book.entries ≡ old = ap (λ (c : Book). length c.entries) (sym is.1) ∙ sym long in
-    let note_kept : (n : Note) → IsNoted inputs first k.book.entries n → IsNoted inputs first book.entries n = λ n h. (
+    let note_kept : (n : Note) → IsHaltNote inputs first k.book.entries n → IsHaltNote inputs first book.entries n = λ n h. (
       let le : n.at ≤ length k.book.entries = h.0 in omega (arith, length-append k.book.entries (q ∷ [])),
       subst (λ l. Halted inputs (first ++ l) n.hart) (sym (take_longer n.at k.book.entries (q ∷ []) h.0)) h.1,
     ) in
     let seated : q.worker < k.book.seats = (let l : o.worker < k.book.seats = mine_list.0 in omega arith) in (
-      entered q (writing b o ns),
+      with_quantum_entry q (writing b o ns),
       keeps,
       tt,
       record {
@@ -51,11 +51,11 @@ enters inputs first slots id b o ns q old long his s k homes at small =
             subst (λ ws. slice_set ws 0 (either (slice_index ws 0 == old) (old + 1) (slice_index ws 0)) ≡ length book.entries ∷ []) (sym k.words_are)
             (exchanged (length k.book.entries) old (old + 1) size ∙ ap (λ n. n ∷ []) (let h : old + 1 ≡ length book.entries = omega (arith, length-append k.book.entries (q ∷ [])) in h));
         from_is = k.from_is;
-        held = (entered q (writing b o ns), ap (λ n. get_elem? (slice_set s.views id (entered q (writing b o ns))) n) (sym is.0) ∙ placed s.views id (writing b o ns) (entered q (writing b o ns)) at, ap (λ (c : Book). Some (longer q c)) is.1);
-        owned = owned_set s.views id (writing b o ns) (entered q (writing b o ns)) k.owner k.book.seats at (λ n h. h) k.owned;
+        held = (with_quantum_entry q (writing b o ns), ap (λ n. get_elem? (slice_set s.views id (with_quantum_entry q (writing b o ns))) n) (sym is.0) ∙ placed s.views id (writing b o ns) (with_quantum_entry q (writing b o ns)) at, ap (λ (c : Book). Some (longer q c)) is.1);
+        owned = owned_set s.views id (writing b o ns) (with_quantum_entry q (writing b o ns)) k.owner k.book.seats at (λ n h. h) k.owned;
         fits = λ j u e. ⊎_elim
-            (λ (t : (j ≡ id) × (entered q (writing b o ns) ≡ u)). subst (λ (v : View). IsFitting inputs first k.keeper book k.owner j v) t.1
-            (subst (λ (n : ℕ). IsFitting inputs first k.keeper book k.owner n (entered q (writing b o ns))) (sym t.0) (record {
+            (λ (t : (j ≡ id) × (with_quantum_entry q (writing b o ns) ≡ u)). subst (λ (v : View). IsFitting inputs first k.keeper book k.owner j v) t.1
+            (subst (λ (n : ℕ). IsFitting inputs first k.keeper book k.owner n (with_quantum_entry q (writing b o ns))) (sym t.0) (record {
               keeps = λ c h. (is.0, let same = is.1 in cc);
               lists = (
                 (
@@ -74,7 +74,7 @@ enters inputs first slots id b o ns q old long his s k homes at small =
               lists = each_map u.lists (λ p l. (l.0, l.1, l.2 ∙ sym (not_of p.worker k.book.from k.book.entries q (λ same. t.0 (sym l.1 ∙ ap k.owner (sym same ∙ his) ∙ mine_list.1))))) f.lists;
               notes = each_map u.notes note_kept f.notes;
             })
-            (at_set s.views id j (entered q (writing b o ns)) u e);
+            (at_set s.views id j (with_quantum_entry q (writing b o ns)) u e);
         workers = each_append (λ (x : Quantum). x.worker < k.book.seats) k.book.entries (q ∷ []) k.workers (seated, tt);
       },
       (
@@ -94,8 +94,8 @@ notes inputs first slots id b o ns q old long halted s k homes at small =
     let mine = k.fits id (writing b o ns) at in
     let is = mine.keeps b refl in
     let size : length k.book.entries ≡ old = ap (λ (c : Book). length c.entries) (sym is.1) ∙ sym long in
-    let new : IsNoted inputs first k.book.entries (note q.hart (length b.entries)) =
-    subst (λ (c : Book). IsNoted inputs first c.entries (note q.hart (length b.entries))) is.1
+    let new : IsHaltNote inputs first k.book.entries (note q.hart (length b.entries)) =
+    subst (λ (c : Book). IsHaltNote inputs first c.entries (note q.hart (length b.entries))) is.1
     (omega arith, subst (λ l. Halted inputs (first ++ l) q.hart) (sym (take_whole b.entries)) halted) in (
       noting q (writing b o ns),
       keeps,
@@ -113,7 +113,7 @@ notes inputs first slots id b o ns q old long halted s k homes at small =
             (subst (λ (n : ℕ). IsFitting inputs first k.keeper k.book k.owner n (noting q (writing b o ns))) (sym t.0) (record {
               keeps = λ c h. (is.0, let same = is.1 in cc);
               lists = mine.lists;
-              notes = each_append (IsNoted inputs first k.book.entries) ns (note q.hart (length b.entries) ∷ []) mine.notes (new, tt);
+              notes = each_append (IsHaltNote inputs first k.book.entries) ns (note q.hart (length b.entries) ∷ []) mine.notes (new, tt);
             })))
             (λ (t : (j ≢ id) × (get_elem? s.views j ≡ some u)). k.fits j u t.1)
             (at_set s.views id j (noting q (writing b o ns)) u e);

@@ -14,8 +14,8 @@ use Rattle.live_run.specs.declared.view.Note.{Note}
 use Rattle.live_run.specs.declared.view.Book.{Book}
 use Rattle.live_run.specs.declared.view.View.{View}
 use Rattle.std.specs.List.{AllByRecursion}
-use Rattle.live_run.specs.Rule.{HasList, IsFitting, IsListed, IsNoted, IsRuled, opening_view}
-use Rattle.live_run.specs.Views.{a_book, book_alone, either_book, hired, hiring, keeping, spent, together, without_book, working, writing}
+use Rattle.live_run.specs.Rule.{HasList, IsFitting, IsListed, IsHaltNote, IsRuled, opening_view}
+use Rattle.live_run.specs.Views.{a_book, book_alone, either_book, hired, hiring, keeping, empty_view, together, without_book, working, writing}
 use Rattle.live_run.proofs.Entries.{each_map, each_append, old_or_last, length_set, none_of}
 use Rattle.live_run.proofs.Owners.{elsewhere, has_back, has_front, moved, moved_else, moved_here, one_view, owned_longer, owned_set, placed, with_owner, with_owner_else, with_owner_here}
 
@@ -101,14 +101,14 @@ either_second None y none = refl
 either_second (Some a) y none = absurd (none a refl)
 
 -- a seat takes in another
-pub meets : (inputs : Inputs) (first : List Quantum) (id : ℕ) (v : View) (other : ℕ) (w : View) → Joins (IsRuled inputs first) id v other w (together v w) spent
+pub meets : (inputs : Inputs) (first : List Quantum) (id : ℕ) (v : View) (other : ℕ) (w : View) → Joins (IsRuled inputs first) id v other w (together v w) empty_view
 meets inputs first id v other w s k at apart there =
     let keeper = moved other id k.keeper in
     let owner : ℕ → ℕ = λ n. moved other id (k.owner n) in
     let theirs : get_elem? s.views other ≡ some w = ⊎_elim (λ (t : (other ≡ id) × (together v w ≡ w)). absurd (apart t.0)) (λ (t : (other ≢ id) × (get_elem? s.views other ≡ some w)). t.1) (at_set s.views id other (together v w) w there) in
     let mine_fits = k.fits id v at in
-    let last = slice_set (slice_set s.views id (together v w)) other spent in
-    let mine_last : get_elem? last id ≡ some (together v w) = elsewhere (slice_set s.views id (together v w)) other spent id (together v w) (λ e. apart (sym e)) (placed s.views id v (together v w) at) in
+    let last = slice_set (slice_set s.views id (together v w)) other empty_view in
+    let mine_last : get_elem? last id ≡ some (together v w) = elsewhere (slice_set s.views id (together v w)) other empty_view id (together v w) (λ e. apart (sym e)) (placed s.views id v (together v w) at) in
     let their_fits = k.fits other w theirs in
     let both : IsFitting inputs first keeper k.book owner id (together v w) = record {
       keeps = λ b e. ⊎_elim
@@ -118,7 +118,7 @@ meets inputs first id v other w s k at apart there =
       lists = each_append (IsListed k.book owner id) v.lists w.lists
           (each_map v.lists (λ o l. (l.0, moved_else other id (k.owner o.worker) (λ same. apart (sym same ∙ l.1)) ∙ l.1, l.2)) mine_fits.lists)
           (each_map w.lists (λ o l. (l.0, moved_here other id (k.owner o.worker) l.1, l.2)) their_fits.lists);
-      notes = each_append (IsNoted inputs first k.book.entries) v.notes w.notes mine_fits.notes their_fits.notes;
+      notes = each_append (IsHaltNote inputs first k.book.entries) v.notes w.notes mine_fits.notes their_fits.notes;
     } in
     record {
       keeper = keeper;
@@ -140,7 +140,7 @@ meets inputs first id v other w s k at apart there =
           ))
           (λ else. (
             k.held.0,
-            ap (λ n. get_elem? last n) (moved_else other id k.keeper ne) ∙ elsewhere (slice_set s.views id (together v w)) other spent k.keeper k.held.0 ne (elsewhere s.views id (together v w) k.keeper k.held.0 else k.held.1),
+            ap (λ n. get_elem? last n) (moved_else other id k.keeper ne) ∙ elsewhere (slice_set s.views id (together v w)) other empty_view k.keeper k.held.0 ne (elsewhere s.views id (together v w) k.keeper k.held.0 else k.held.1),
             k.held.2,
           )));
       owned = λ n lt.
@@ -159,11 +159,11 @@ meets inputs first id v other w s k at apart there =
           ))
           (λ else. (
             t.0,
-            ap (λ i. get_elem? last i) (moved_else other id (k.owner n) ne) ∙ elsewhere (slice_set s.views id (together v w)) other spent (k.owner n) t.0 ne (elsewhere s.views id (together v w) (k.owner n) t.0 else t.1),
+            ap (λ i. get_elem? last i) (moved_else other id (k.owner n) ne) ∙ elsewhere (slice_set s.views id (together v w)) other empty_view (k.owner n) t.0 ne (elsewhere s.views id (together v w) (k.owner n) t.0 else t.1),
             t.2,
           )));
       fits = λ j u e. ⊎_elim
-          (λ (t : (j ≡ other) × (spent ≡ u)). subst (λ (x : View). IsFitting inputs first keeper k.book owner j x) t.1 (record { keeps = λ b h. absurd cc; lists = tt; notes = tt }))
+          (λ (t : (j ≡ other) × (empty_view ≡ u)). subst (λ (x : View). IsFitting inputs first keeper k.book owner j x) t.1 (record { keeps = λ b h. absurd cc; lists = tt; notes = tt }))
           (λ (t : (j ≢ other) × (get_elem? (slice_set s.views id (together v w)) j ≡ some u)). ⊎_elim
           (λ (r : (j ≡ id) × (together v w ≡ u)). subst (λ (x : View). IsFitting inputs first keeper k.book owner j x) r.1 (subst (λ (n : ℕ). IsFitting inputs first keeper k.book owner n (together v w)) (sym r.0) both))
           (λ (r : (j ≢ id) × (get_elem? s.views j ≡ some u)).
@@ -173,7 +173,7 @@ meets inputs first id v other w s k at apart there =
             notes = f.notes;
           })
           (at_set s.views id j (together v w) u t.1))
-          (at_set (slice_set s.views id (together v w)) other j spent u e);
+          (at_set (slice_set s.views id (together v w)) other j empty_view u e);
       workers = k.workers;
     }
 

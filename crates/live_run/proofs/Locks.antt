@@ -13,11 +13,11 @@ use Rattle.session_spec.specs.Inputs.{Inputs}
 use Rattle.session_spec.specs.Work.{Halted}
 use Rattle.live_run.proofs.Stays.{stays}
 use Rattle.std.specs.List.{AllByRecursion}
-use Rattle.live_run.specs.Locked.{IsGathered, IsSettled, all_noted, harts_of, lists_of}
+use Rattle.live_run.specs.Locked.{IsGathered, IsSettled, all_noted, halted_harts, lists_of}
 use Rattle.live_run.specs.Receipts.{receipts_of}
-use Rattle.live_run.specs.Rule.{AreBelowBook, IsNoted, IsRuled}
+use Rattle.live_run.specs.Rule.{AreBelowBook, IsHaltNote, IsRuled}
 use Rattle.live_run.specs.Seats.{AreDealt, AreHalted, SeatData}
-use Rattle.live_run.specs.Views.{a_book, book_alone, either_book, entered, gains, keeping, longer, note, noting, own_list, together, without_book, working}
+use Rattle.live_run.specs.Views.{a_book, book_alone, either_book, with_quantum_entry, gains, keeping, longer, note, noting, own_list, together, without_book, working}
 use Rattle.live_run.proofs.Entering.{met}
 use Rattle.live_run.proofs.Entries.{each_map, stands}
 
@@ -34,12 +34,12 @@ halted_along a b xs ys hart e f h = subst (λ (i : Inputs). Halted i ys hart) e 
 
 -- what the steps leave with the two seats
 pub seat_entered : (book seat : Me Quantum View) (b : Book) (o : OwnList) (ns : List Note) (q : Quantum) → book ≡ (keeping b, []) → seat ≡ (working o ns, [])
-    → without_book (entered q (together seat.0 book.0)) ≡ working (gains q b o) ns
-seat_entered book seat b o ns q e f = ap (λ (m : Me Quantum View). without_book (entered q m.0)) (met book seat b o ns e f) ∙ ap (working (gains q b o)) (append-nil ns)
+    → without_book (with_quantum_entry q (together seat.0 book.0)) ≡ working (gains q b o) ns
+seat_entered book seat b o ns q e f = ap (λ (m : Me Quantum View). without_book (with_quantum_entry q m.0)) (met book seat b o ns e f) ∙ ap (working (gains q b o)) (append-nil ns)
 
 pub book_entered : (book seat : Me Quantum View) (b : Book) (o : OwnList) (ns : List Note) (q : Quantum) → book ≡ (keeping b, []) → seat ≡ (working o ns, [])
-    → book_alone (entered q (together seat.0 book.0)) ≡ keeping (longer q b)
-book_entered book seat b o ns q e f = ap (λ (m : Me Quantum View). book_alone (entered q m.0)) (met book seat b o ns e f)
+    → book_alone (with_quantum_entry q (together seat.0 book.0)) ≡ keeping (longer q b)
+book_entered book seat b o ns q e f = ap (λ (m : Me Quantum View). book_alone (with_quantum_entry q m.0)) (met book seat b o ns e f)
 
 pub seat_noted : (book seat : Me Quantum View) (b : Book) (o : OwnList) (ns : List Note) (q : Quantum) → book ≡ (keeping b, []) → seat ≡ (working o ns, [])
     → without_book (noting q (together seat.0 book.0)) ≡ working o (ns ++ note q.hart (length b.entries) ∷ [])
@@ -53,10 +53,10 @@ pub below_of : (book seat : Me Quantum View) (b : Book) (o : OwnList) (ns : List
     → AreBelowBook (together seat.0 book.0).book (together seat.0 book.0).lists → AllByRecursion (λ (r : Receipt). r.number < b.from + length b.entries) o.receipts
 below_of book seat b o ns e f h = let t = subst (λ (m : Me Quantum View). AreBelowBook m.0.book m.0.lists) (met book seat b o ns e f) h in t.0
 
-pub seat_grows : (w : ℕ) (rs rs' : List Receipt) (ns ns' : List Note) (r : Receipt) (s : SeatData) → ◌≡◌ {A = SeatData} (record { worker = w; receipts = rs; noted = harts_of ns }) s → rs' ≡ rs ++ r ∷ [] → ns' ≡ ns
-    → ◌≡◌ {A = SeatData} (record { worker = w; receipts = rs'; noted = harts_of ns' }) (record { worker = s.worker; receipts = s.receipts ++ r ∷ []; noted = s.noted })
+pub seat_grows : (w : ℕ) (rs rs' : List Receipt) (ns ns' : List Note) (r : Receipt) (s : SeatData) → ◌≡◌ {A = SeatData} (record { worker = w; receipts = rs; noted = halted_harts ns }) s → rs' ≡ rs ++ r ∷ [] → ns' ≡ ns
+    → ◌≡◌ {A = SeatData} (record { worker = w; receipts = rs'; noted = halted_harts ns' }) (record { worker = s.worker; receipts = s.receipts ++ r ∷ []; noted = s.noted })
 seat_grows w rs rs' ns ns' r s v e n =
-    let first : ◌≡◌ {A = SeatData} (record { worker = w; receipts = rs'; noted = harts_of ns' }) (record { worker = w; receipts = rs ++ r ∷ []; noted = harts_of ns }) = λ i. record { worker = w; receipts = e i; noted = harts_of (n i) } in
+    let first : ◌≡◌ {A = SeatData} (record { worker = w; receipts = rs'; noted = halted_harts ns' }) (record { worker = w; receipts = rs ++ r ∷ []; noted = halted_harts ns }) = λ i. record { worker = w; receipts = e i; noted = halted_harts (n i) } in
     let grow : SeatData → SeatData = λ (d : SeatData). record { worker = d.worker; receipts = d.receipts ++ r ∷ []; noted = d.noted } in
     first ∙ ap grow v
 
@@ -66,7 +66,7 @@ all_noted-last (x ∷ xs) s = ap (λ l. x.noted ++ l) (all_noted-last xs s) ∙ 
 
 -- the book's seat takes in one more
 pub gathered_more : (b : Book) (seats : List SeatData) (s : SeatData) (v : View) (w : View) (worker : ℕ) (receipts : List Receipt) → IsGathered b seats v → w ≡ working (own_list worker receipts) w.notes
-    → ◌≡◌ {A = SeatData} (record { worker = worker; receipts = receipts; noted = harts_of w.notes }) s → IsGathered b (seats ++ s ∷ []) (together v w)
+    → ◌≡◌ {A = SeatData} (record { worker = worker; receipts = receipts; noted = halted_harts w.notes }) s → IsGathered b (seats ++ s ∷ []) (together v w)
 gathered_more b seats s v w worker receipts g is shows = record {
   book_is = ap (λ (x : Option Book). either_book x w.book) g.book_is;
   lists_are =
@@ -118,7 +118,7 @@ dealt_by inputs first entries workers seats v all g s = record {
   workers = subst (λ n. AllByRecursion (λ (q : Quantum). q.worker < n) entries) (sym all) s.workers;
 }
 
-halted_later : (inputs : Inputs) (first entries : List Quantum) (n : Note) → IsNoted inputs first entries n → Halted inputs (first ++ entries) n.hart
+halted_later : (inputs : Inputs) (first entries : List Quantum) (n : Note) → IsHaltNote inputs first entries n → Halted inputs (first ++ entries) n.hart
 halted_later inputs first entries n noted =
     let whole : (first ++ take n.at entries) ++ drop n.at entries ≡ first ++ entries = append_assoc first (take n.at entries) (drop n.at entries) ∙ ap (λ l. first ++ l) (take_drop n.at entries) in
     subst (λ l. Halted inputs l n.hart) whole (stays inputs (first ++ take n.at entries) (drop n.at entries) n.hart noted.1)
@@ -128,7 +128,7 @@ pub halted_by : (inputs : Inputs) (first entries : List Quantum) (workers : ℕ)
 halted_by inputs first entries workers seats v g s =
     by_seat (Halted inputs (first ++ entries)) seats
     (subst (λ l. AllByRecursion (Halted inputs (first ++ entries)) l) g.notes_are
-    (to_map (λ (n : Note). n.hart) (Halted inputs (first ++ entries)) v.notes (each_map {P = IsNoted inputs first entries} {Q = λ (n : Note). Halted inputs (first ++ entries) n.hart} v.notes (λ n h. halted_later inputs first entries n h) s.notes)))
+    (to_map (λ (n : Note). n.hart) (Halted inputs (first ++ entries)) v.notes (each_map {P = IsHaltNote inputs first entries} {Q = λ (n : Note). Halted inputs (first ++ entries) n.hart} v.notes (λ n h. halted_later inputs first entries n h) s.notes)))
 
 -- from the rule and the seat's view
 pub settled : (inputs : Inputs) (first : List Quantum) (s : State Quantum View) (id : ℕ) (v : View) (b : Book) → Seen (IsRuled inputs first) id v s → v.book ≡ Some b → IsSettled inputs first b v

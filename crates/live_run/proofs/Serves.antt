@@ -4,7 +4,7 @@ use native.Mathlib.Decide.{ℕ_discrete}
 use mathlib.Core.Logic.{dite}
 use Rattle.std.proofs.lemmas.List.{map-append}
 use Rattle.live_run.specs.declared.view.Receipt.{Receipt}
-use Rattle.live_run.specs.Serving.{AreHartsBelow, AreTakingTurns, IsFor, IsServed, IsServing, harts_in}
+use Rattle.live_run.specs.Serving.{AreHartsBelow, AreTakingTurns, IsFor, HasServed, IsServing, harts_in}
 use Rattle.machine.specs.Cores.{In}
 use Rattle.live_run.specs.Seats.{SeatData, fresh_seat}
 use Rattle.live_run.proofs.Entries.{each_map, each_append}
@@ -69,7 +69,7 @@ passes harts workers turns worker hart waits c d s is =
           (s.all n lt e);
     })
 
-pub ends : (harts workers turns worker : ℕ) (c : SeatData) → IsServing harts workers turns worker [] c → IsServed harts workers turns worker c
+pub ends : (harts workers turns worker : ℕ) (c : SeatData) → IsServing harts workers turns worker [] c → HasServed harts workers turns worker c
 ends harts workers turns worker c s = record {
   worker_is = s.worker_is;
   receipts = s.receipts;

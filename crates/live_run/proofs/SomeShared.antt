@@ -6,7 +6,7 @@ use Rattle.machine.specs.Turns.{is_runnable}
 use Rattle.pn_types.specs.declared.limits.TheConstants.{MAX_QUANTA, MAX_QUANTUM, MAX_WORKERS}
 use Rattle.pn_types.specs.declared.quantum.Quantum.{Quantum}
 use Rattle.session_spec.specs.Inputs.{Inputs}
-use Rattle.session_spec.specs.Work.{AreAllowed, Halted, IsAllowed, quantum_of, work}
+use Rattle.session_spec.specs.Work.{AreAllowed, Halted, IsAllowed, quantum_of, after_quanta}
 use Rattle.live_run.proofs.Entries.{each_append}
 use Rattle.live_run.proofs.Stays.{stays}
 use Rattle.whole_run.proofs.Ordered.{full, halted}
@@ -68,14 +68,14 @@ module _ (i : Inputs) (workers turns : ℕ) (team : 1 ≤ workers) (few : worker
   -- ---- a turn
 
   abbrev taken : ℕ → List Quantum → Quantum
-  taken hart quanta = quantum_of i (hart % workers) hart turns (work i quanta).kept
+  taken hart quanta = quantum_of i (hart % workers) hart turns (after_quanta i quanta).kept
 
-  takes : (number hart : ℕ) (quanta : List Quantum) (waits : List ℕ) → Waits number quanta (hart ∷ waits) → is_runnable (work i quanta).kept.machine.core hart ≡ true → number < MAX_QUANTA
+  takes : (number hart : ℕ) (quanta : List Quantum) (waits : List ℕ) → Waits number quanta (hart ∷ waits) → is_runnable (after_quanta i quanta).kept.machine.core hart ≡ true → number < MAX_QUANTA
       → Waits (number + 1) (quanta ++ taken hart quanta ∷ []) (waits ++ hart ∷ [])
   takes number hart quanta waits w goes room =
       let q = taken hart quanta in
       let many = w.many in
-      let one : IsAllowed i (work i quanta).kept q = record { worker = omega arith; hart = w.below.0; some = some; few = most; runnable = goes; owns = refl } in
+      let one : IsAllowed i (after_quanta i quanta).kept q = record { worker = omega arith; hart = w.below.0; some = some; few = most; runnable = goes; owns = refl } in
       record {
         allowed = allowed_more i quanta q w.allowed (omega arith) one;
         many = omega (arith, length-append quanta (q ∷ []));
@@ -90,7 +90,7 @@ module _ (i : Inputs) (workers turns : ℕ) (team : 1 ≤ workers) (few : worker
       by h (inl (inr there)) = inl (in_front h waits (hart ∷ []) there)
       by h (inr halts) = inr (stays i quanta (taken hart quanta ∷ []) h halts)
 
-  passes : (number hart : ℕ) (quanta : List Quantum) (waits : List ℕ) → Waits number quanta (hart ∷ waits) → is_runnable (work i quanta).kept.machine.core hart ≡ false → Waits number quanta waits
+  passes : (number hart : ℕ) (quanta : List Quantum) (waits : List ℕ) → Waits number quanta (hart ∷ waits) → is_runnable (after_quanta i quanta).kept.machine.core hart ≡ false → Waits number quanta waits
   passes number hart quanta waits w stops = record {
     allowed = w.allowed;
     many = w.many;
@@ -123,9 +123,9 @@ module _ (i : Inputs) (workers turns : ℕ) (team : 1 ≤ workers) (few : worker
 
   one_more : (left : ℕ) → GoesOn left → GoesOn (suc left)
   one_more left go number quanta [] sum w = none_waits number quanta w
-  one_more left go number quanta (hart ∷ waits) sum w = by (is_runnable (work i quanta).kept.machine.core hart) refl (one_more left go number quanta waits sum)
+  one_more left go number quanta (hart ∷ waits) sum w = by (is_runnable (after_quanta i quanta).kept.machine.core hart) refl (one_more left go number quanta waits sum)
     where
-      by : (b : Bool) → is_runnable (work i quanta).kept.machine.core hart ≡ b → (Waits number quanta waits → HasWhole) → HasWhole
+      by : (b : Bool) → is_runnable (after_quanta i quanta).kept.machine.core hart ≡ b → (Waits number quanta waits → HasWhole) → HasWhole
       by true goes rest = go (number + 1) (quanta ++ taken hart quanta ∷ []) (waits ++ hart ∷ []) (omega (arith, sum)) (takes number hart quanta waits w goes (omega (arith, sum)))
       by false stops rest = rest (passes number hart quanta waits w stops)
 

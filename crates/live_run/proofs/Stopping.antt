@@ -7,7 +7,7 @@ use Rattle.pn_types.specs.declared.placed.Placed.{Placed}
 use Rattle.rv_word.specs.Plain.{program_word}
 use Rattle.tramp_spec.specs.Harts.{Hart}
 use Rattle.machine.specs.Cores.{Core, Row}
-use Rattle.machine.specs.Effects.{after, armed, mini_linked, mini_unlinked, point_linked, point_unlinked}
+use Rattle.machine.specs.Effects.{after_event, armed_hart, mini_linked, mini_unlinked, point_linked, point_unlinked}
 use Rattle.machine.specs.Events as events
 use Rattle.machine.specs.Events.{Event, Turn, before, current_base, row_at}
 use Rattle.machine.specs.Leaving.{is_out}
@@ -19,12 +19,12 @@ use Rattle.machine.proofs.Replaying.{replay-append}
 use Rattle.machine.proofs.Settled.{not_out_runs}
 use Rattle.instrument.specs.Books.{freed_point}
 use Rattle.instrument.specs.Handing.{event_of, is_barred}
-use Rattle.instrument.specs.Placements.{Placements, behind, free_behind, free_front, front, instrument_at}
+use Rattle.instrument.specs.Placements.{Placements, after_first, free_behind, free_front, front, instrument_at}
 use Rattle.instrument.specs.Scenes.{Act, Arms, Happens, Hands, Sweeps, arms, frees, hands, hands_by, sweeps}
 use Rattle.instrument.specs.declared.entry.Entry.{Entry}
 use Rattle.instrument.specs.declared.entry.Entry.TheVariants.{Free, LinkMini, LinkPoint, UnlinkMini, UnlinkPoint, WriteBase, WriteMini}
 use Rattle.instrument.specs.declared.instrument.Instrument.{Instrument}
-use Rattle.instrumented.specs.Instrumented.{Instrumented, done, in_scene, repeated, scene_of, taken}
+use Rattle.instrumented.specs.Instrumented.{Instrumented, after_act, in_scene, repeated, scene_of, after_turns}
 use Rattle.instrumented.proofs.Acts.{done_is}
 
 module _ (h : ℕ) where
@@ -67,14 +67,14 @@ module _ (h : ℕ) where
 
   -- ---- the machine with its instruments
 
-  taken_core : (turns : List Event) (m : Instrumented) → (taken turns m).core ≡ replay turns m.core
+  taken_core : (turns : List Event) (m : Instrumented) → (after_turns turns m).core ≡ replay turns m.core
   taken_core [] m = refl
-  taken_core (e ∷ turns) m = taken_core turns (done (Happens e) m) ∙ ap (λ (d : Instrumented). replay turns d.core) (done_is (Happens e) m)
+  taken_core (e ∷ turns) m = taken_core turns (after_act (Happens e) m) ∙ ap (λ (d : Instrumented). replay turns d.core) (done_is (Happens e) m)
 
-  pub quantum_taken : (n g : ℕ) (m : Instrumented) → IsStopped m.core → IsStopped (taken (quantum_turns n g m.core) m).core
+  pub quantum_taken : (n g : ℕ) (m : Instrumented) → IsStopped m.core → IsStopped (after_turns (quantum_turns n g m.core) m).core
   quantum_taken n g m e = subst IsStopped (sym (taken_core (quantum_turns n g m.core) m)) (quantum_stops n g m.core e)
 
-  pub settling_taken : (m : Instrumented) → IsStopped m.core → IsStopped (taken (settling m.core) m).core
+  pub settling_taken : (m : Instrumented) → IsStopped m.core → IsStopped (after_turns (settling m.core) m).core
   settling_taken m e = subst IsStopped (sym (taken_core (settling m.core) m)) (settling_stops (length m.core.harts) 0 m.core e)
 
   -- ---- what is no turn
@@ -96,7 +96,7 @@ module _ (h : ℕ) where
   point_unlinked_same None p c = refl
   point_unlinked_same (Some w) p c = refl
 
-  entry_same : (e : Entry) (c : Core) → is_runnable (after c (event_of c e)) h ≡ is_runnable c h
+  entry_same : (e : Entry) (c : Core) → is_runnable (after_event c (event_of c e)) h ≡ is_runnable c h
   entry_same (WriteBase b) c = refl
   entry_same (WriteMini b) c = refl
   entry_same (LinkMini p m) c = mini_linked_same (current_base c.rows p) m c
@@ -109,27 +109,27 @@ module _ (h : ℕ) where
   frees_same true p q m = refl
   frees_same false p q m = refl
 
-  hands_same : (m : Instrumented) → is_runnable (done Hands m).core h ≡ is_runnable m.core h
+  hands_same : (m : Instrumented) → is_runnable (after_act Hands m).core h ≡ is_runnable m.core h
   hands_same m = ap (λ (d : Instrumented). is_runnable d.core h) (done_is Hands m) ∙ by (front m.placer)
     where
       by_point : (o : Option ℕ) (e : Entry) → is_runnable (in_scene (hands_by o e (scene_of m)).scene).core h ≡ is_runnable m.core h
       by_point None e = entry_same e m.core
-      by_point (Some p) e = frees_same (is_barred m.core p) p (behind m.placer) m
+      by_point (Some p) e = frees_same (is_barred m.core p) p (after_first m.placer) m
 
       by : (o : Option Entry) → is_runnable (in_scene (hands o (scene_of m)).scene).core h ≡ is_runnable m.core h
       by None = refl
       by (Some e) = by_point (freed_point e) e
 
-  sweeps_same : (m : Instrumented) → is_runnable (done Sweeps m).core h ≡ is_runnable m.core h
+  sweeps_same : (m : Instrumented) → is_runnable (after_act Sweeps m).core h ≡ is_runnable m.core h
   sweeps_same m = ap (λ (d : Instrumented). is_runnable d.core h) (done_is Sweeps m) ∙ by (free_front m.placer)
     where
       by : (o : Option ℕ) → is_runnable (in_scene (sweeps o (free_behind m.placer) (scene_of m)).scene).core h ≡ is_runnable m.core h
       by None = refl
       by (Some p) = frees_same false p (free_behind m.placer) m
 
-  pub repeated_same : (n : ℕ) (a : Act) (m : Instrumented) → ((d : Instrumented) → is_runnable (done a d).core h ≡ is_runnable d.core h) → is_runnable (repeated n a m).core h ≡ is_runnable m.core h
+  pub repeated_same : (n : ℕ) (a : Act) (m : Instrumented) → ((d : Instrumented) → is_runnable (after_act a d).core h ≡ is_runnable d.core h) → is_runnable (repeated n a m).core h ≡ is_runnable m.core h
   repeated_same zero a m same = refl
-  repeated_same (suc n) a m same = repeated_same n a (done a m) same ∙ same m
+  repeated_same (suc n) a m same = repeated_same n a (after_act a m) same ∙ same m
 
   pub hands_all_same : (n : ℕ) (m : Instrumented) → is_runnable (repeated n Hands m).core h ≡ is_runnable m.core h
   hands_all_same n m = repeated_same n Hands m hands_same
@@ -138,7 +138,7 @@ module _ (h : ℕ) where
   sweeps_all_same n m = repeated_same n Sweeps m sweeps_same
 
   -- slots are set, and nothing else of a hart
-  hart_armed : (c : Core) (i : Placed) (o : Option Hart) (budget : ℕ) → may_turn (option_map (armed c i) o) budget ≡ may_turn o budget
+  hart_armed : (c : Core) (i : Placed) (o : Option Hart) (budget : ℕ) → may_turn (option_map (armed_hart c i) o) budget ≡ may_turn o budget
   hart_armed c i None budget = refl
   hart_armed c i (Some x) budget = refl
 
@@ -147,10 +147,10 @@ module _ (h : ℕ) where
   get_mapped f (x ∷ xs) zero = refl
   get_mapped f (x ∷ xs) (suc n) = get_mapped f xs n
 
-  arm_same : (i : Placed) (c : Core) → is_runnable (after c (events.Arm i)) h ≡ is_runnable c h
-  arm_same i c = ap (λ o. may_turn o c.budget) (get_mapped (armed c i) c.harts h) ∙ hart_armed c i (slice_get c.harts h) c.budget
+  arm_same : (i : Placed) (c : Core) → is_runnable (after_event c (events.Arm i)) h ≡ is_runnable c h
+  arm_same i c = ap (λ o. may_turn o c.budget) (get_mapped (armed_hart c i) c.harts h) ∙ hart_armed c i (slice_get c.harts h) c.budget
 
-  pub arms_same : (n : ℕ) (m : Instrumented) → is_runnable (done (Arms n) m).core h ≡ is_runnable m.core h
+  pub arms_same : (n : ℕ) (m : Instrumented) → is_runnable (after_act (Arms n) m).core h ≡ is_runnable m.core h
   arms_same n m = ap (λ (d : Instrumented). is_runnable d.core h) (done_is (Arms n) m) ∙ by (instrument_at m.placer n)
     where
       by : (o : Option Instrument) → is_runnable (in_scene (arms o (scene_of m)).scene).core h ≡ is_runnable m.core h

@@ -7,7 +7,7 @@ use Rattle.session_spec.specs.Inputs.{Inputs}
 use Rattle.pn_types.specs.declared.quantum.Quantum.{Quantum}
 use Rattle.live_run.specs.declared.view.Receipt.{Receipt}
 use Rattle.live_run.specs.ByWorkers.{IsByWorkers, one_if, times}
-use Rattle.live_run.specs.Serving.{AreServed, IsFor, IsServed, count, harts_in}
+use Rattle.live_run.specs.Serving.{AreServed, IsFor, HasServed, count, harts_in}
 use Rattle.machine.specs.Cores.{In}
 use Rattle.session_spec.specs.Work.{AreAllowed, Halted, IsWhole}
 use Rattle.live_run.specs.Receipts.{receipt, receipts_of, with_if}
@@ -19,11 +19,11 @@ in_order harts workers turns k [] s = tt
 in_order harts workers turns k (c ∷ cs) s = (s.0.worker_is, in_order harts workers turns (suc k) cs s.1)
 
 -- the seat of a worker
-served_at : (harts workers turns k w : ℕ) (cs : List SeatData) (P : SeatData → Type 0) → AreServed harts workers turns k cs → AllByRecursion P cs → k ≤ w → w < k + length cs → (c : SeatData) × IsServed harts workers turns w c × P c
+served_at : (harts workers turns k w : ℕ) (cs : List SeatData) (P : SeatData → Type 0) → AreServed harts workers turns k cs → AllByRecursion P cs → k ≤ w → w < k + length cs → (c : SeatData) × HasServed harts workers turns w c × P c
 served_at harts workers turns k w [] P s p low high = absurd (omega arith)
 served_at harts workers turns k w (c ∷ cs) P s p low high =
     dite (ℕ_discrete k w)
-    (λ same. (c, subst (λ (n : ℕ). IsServed harts workers turns n c) same s.0, p.0))
+    (λ same. (c, subst (λ (n : ℕ). HasServed harts workers turns n c) same s.0, p.0))
     (λ other. served_at harts workers turns (suc k) w cs P s.1 p.1 (omega arith) (omega arith))
 
 each_in : (P : ℕ → Type 0) (xs : List ℕ) (x : ℕ) → AllByRecursion P xs → In x xs → P x
@@ -97,7 +97,7 @@ rightly workers turns n k (q ∷ qs) below h =
 
 pub by_workers : (harts workers turns from : ℕ) (entries : List Quantum) (cs : List SeatData) → 0 < workers → length cs ≡ workers → AreServed harts workers turns 0 cs → AreDealt from entries cs → IsByWorkers workers turns entries
 by_workers harts workers turns from entries cs some all s d =
-    let at : (w : ℕ) → w < workers → (c : SeatData) × IsServed harts workers turns w c × (c.receipts ≡ receipts_of c.worker from entries) = λ w lt. served_at harts workers turns 0 w cs (λ (c : SeatData). c.receipts ≡ receipts_of c.worker from entries) s d.receipts (omega arith) (omega arith) in
+    let at : (w : ℕ) → w < workers → (c : SeatData) × HasServed harts workers turns w c × (c.receipts ≡ receipts_of c.worker from entries) = λ w lt. served_at harts workers turns 0 w cs (λ (c : SeatData). c.receipts ≡ receipts_of c.worker from entries) s d.receipts (omega arith) (omega arith) in
     let is : (w : ℕ) (lt : w < workers) → (at w lt).0.receipts ≡ receipts_of w from entries = λ w lt. (at w lt).2 ∙ ap (λ n. receipts_of n from entries) (at w lt).1.worker_is in
     let right : AllByRecursion (IsRight workers turns) entries = rightly workers turns workers from entries (subst (λ n. AllByRecursion (λ (q : Quantum). q.worker < n) entries) all d.workers) (λ w lt. subst (AllByRecursion (IsFor workers turns w)) (is w lt) (at w lt).1.receipts) in
     record {
@@ -136,11 +136,11 @@ fresh_at (suc n) i d lt = dite (ℕ_discrete i n)
     (λ same. index_last (fresh_seats n) (fresh_seat n) d i (same ∙ sym (length_fresh n)) ∙ ap fresh_seat (sym same))
     (λ other. index_front (fresh_seats n) (fresh_seat n ∷ []) i d (let t = length_fresh n in omega arith) ∙ fresh_at n i d (omega arith))
 
-pub all_served : (harts workers turns k : ℕ) (cs : List SeatData) → ((i : ℕ) → i < length cs → (d : SeatData) → IsServed harts workers turns (k + i) (slice_index_or cs i d)) → AreServed harts workers turns k cs
+pub all_served : (harts workers turns k : ℕ) (cs : List SeatData) → ((i : ℕ) → i < length cs → (d : SeatData) → HasServed harts workers turns (k + i) (slice_index_or cs i d)) → AreServed harts workers turns k cs
 all_served harts workers turns k [] h = tt
 all_served harts workers turns k (c ∷ cs) h = (
-  subst (λ n. IsServed harts workers turns n c) (omega arith) (h 0 (omega arith) c),
-  all_served harts workers turns (suc k) cs (λ i lt d. subst (λ n. IsServed harts workers turns n (slice_index_or cs i d)) (omega arith) (h (suc i) (omega arith) d)),
+  subst (λ n. HasServed harts workers turns n c) (omega arith) (h 0 (omega arith) c),
+  all_served harts workers turns (suc k) cs (λ i lt d. subst (λ n. HasServed harts workers turns n (slice_index_or cs i d)) (omega arith) (h (suc i) (omega arith) d)),
 )
 
 pub index_map : {X Y : Type 0} (f : X → Y) (xs : List X) (i : ℕ) (d : X) → slice_index_or (map f xs) i (f d) ≡ f (slice_index_or xs i d)

@@ -16,10 +16,10 @@ use Rattle.live_run.specs.declared.view.View.{View}
 use Rattle.live_run.specs.Receipts.{receipts_of}
 use Rattle.live_run.specs.Seats.{SeatData}
 use Rattle.live_run.specs.Views.{a_book, own_list, keeping, working}
-use Rattle.live_run.specs.Rule.{IsNoted}
+use Rattle.live_run.specs.Rule.{IsHaltNote}
 
-abbrev pub harts_of : List Note → List ℕ
-harts_of ns = map (λ (n : Note). n.hart) ns
+abbrev pub halted_harts : List Note → List ℕ
+halted_harts ns = map (λ (n : Note). n.hart) ns
 
 -- the workers' lists, and the harts noted, seat by seat
 abbrev pub lists_of : List SeatData → List OwnList
@@ -69,11 +69,11 @@ CanNote inputs first hart book seat made =
 pub record IsSettled (inputs : Inputs) (first : List Quantum) (b : Book) (v : View) : Type 0 where
   pub from_is : b.from ≡ length first
   pub lists : AllByRecursion (λ (o : OwnList). (o.worker < b.seats) × (o.receipts ≡ receipts_of o.worker b.from b.entries)) v.lists
-  pub notes : AllByRecursion (IsNoted inputs first b.entries) v.notes
+  pub notes : AllByRecursion (IsHaltNote inputs first b.entries) v.notes
   pub workers : AllByRecursion (λ (q : Quantum). q.worker < b.seats) b.entries
 
 -- the seat with the book has taken in these seats
 pub record IsGathered (b : Book) (seats : List SeatData) (v : View) : Type 0 where
   pub book_is : v.book ≡ Some b
   pub lists_are : v.lists ≡ lists_of seats
-  pub notes_are : harts_of v.notes ≡ all_noted seats
+  pub notes_are : halted_harts v.notes ≡ all_noted seats

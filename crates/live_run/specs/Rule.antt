@@ -12,12 +12,12 @@ use Rattle.live_run.specs.declared.view.Note.{Note}
 use Rattle.live_run.specs.declared.view.Book.{Book}
 use Rattle.live_run.specs.declared.view.View.{View}
 use Rattle.live_run.specs.Receipts.{AreBelow, receipts_of}
-use Rattle.live_run.specs.Views.{keeping, a_book, entered, noting}
+use Rattle.live_run.specs.Views.{keeping, a_book, with_quantum_entry, noting}
 use Rattle.live_run.specs.Said.{said_of}
 
 -- the hart was halted after a number of the entries
-abbrev pub IsNoted : Inputs → List Quantum → List Quantum → Note → Type 0
-IsNoted inputs first entries n = (n.at ≤ length entries) × Halted inputs (first ++ take n.at entries) n.hart
+abbrev pub IsHaltNote : Inputs → List Quantum → List Quantum → Note → Type 0
+IsHaltNote inputs first entries n = (n.at ≤ length entries) × Halted inputs (first ++ take n.at entries) n.hart
 
 -- the worker has a number below the seats, its list is in the view with this number, and its receipts are the book's of that worker
 abbrev pub IsListed : Book → (ℕ → ℕ) → ℕ → OwnList → Type 0
@@ -32,12 +32,12 @@ HasList worker (o ∷ os) = (o.worker ≡ worker) ⊎ HasList worker os
 pub record IsFitting (inputs : Inputs) (first : List Quantum) (keeper : ℕ) (book : Book) (owner : ℕ → ℕ) (by : ℕ) (v : View) : Type 0 where
   pub keeps : (b : Book) → v.book ≡ Some b → (by ≡ keeper) × (b ≡ book)
   pub lists : AllByRecursion (IsListed book owner by) v.lists
-  pub notes : AllByRecursion (IsNoted inputs first book.entries) v.notes
+  pub notes : AllByRecursion (IsHaltNote inputs first book.entries) v.notes
 
 -- One view holds the book, and the word is the number of its entries. The lists' workers are those below the book's count of seats,
 -- each in one view. A list is the book's entries of its worker, in order, with their numbers. The book has no entry of another
 -- worker. Each noted hart was halted after as many entries as its note says.
-pub record IsKept (inputs : Inputs) (first : List Quantum) (words : List ℕ) (views : List View) : Type 0 where
+pub record IsShared (inputs : Inputs) (first : List Quantum) (words : List ℕ) (views : List View) : Type 0 where
   pub keeper : ℕ
   pub book : Book
   pub owner : ℕ → ℕ
@@ -49,7 +49,7 @@ pub record IsKept (inputs : Inputs) (first : List Quantum) (words : List ℕ) (v
   pub workers : AllByRecursion (λ (q : Quantum). q.worker < book.seats) book.entries
 
 abbrev pub IsRuled : Inputs → List Quantum → State Quantum View → Type 0
-IsRuled inputs first s = IsKept inputs first s.words s.views
+IsRuled inputs first s = IsShared inputs first s.words s.views
 
 -- the view at the start: an empty book, which begins after the first quanta
 abbrev pub opening_view : List Quantum → View
@@ -62,7 +62,7 @@ AreBelowBook (Some b) os = AllByRecursion (λ (o : OwnList). AreBelow (b.from + 
 
 -- the announced quantum is the book's and the own list's last, and its number is above the earlier ones
 abbrev pub IsEntering : Step Quantum → Me Quantum View → ℕ → Me Quantum View → Type 0
-IsEntering st me found next = (next ≡ (entered (said_of st.said) me.0, me.1)) × AreBelowBook me.0.book me.0.lists
+IsEntering st me found next = (next ≡ (with_quantum_entry (said_of st.said) me.0, me.1)) × AreBelowBook me.0.book me.0.lists
 
 -- the announced hart is noted
 abbrev pub IsNoting : Step Quantum → Me Quantum View → ℕ → Me Quantum View → Type 0

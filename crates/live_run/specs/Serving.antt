@@ -36,7 +36,7 @@ abbrev pub IsFor : ℕ → ℕ → ℕ → Receipt → Type 0
 IsFor workers turns worker r = (r.quantum.turns ≡ turns) × (r.quantum.hart % workers ≡ worker)
 
 -- the worker took its harts in turn, each until it was halted
-pub record IsServed (harts workers turns worker : ℕ) (s : SeatData) : Type 0 where
+pub record HasServed (harts workers turns worker : ℕ) (s : SeatData) : Type 0 where
   pub worker_is : s.worker ≡ worker
   pub receipts : AllByRecursion (IsFor workers turns worker) s.receipts
   pub in_turn : AreInTurn (harts_in s.receipts)
@@ -59,4 +59,4 @@ pub record AreHartsBelow (n workers worker : ℕ) (harts : List ℕ) : Type 0 wh
 -- the seats of the workers n, n + 1 and so on, which served
 abbrev pub AreServed : ℕ → ℕ → ℕ → ℕ → List SeatData → Type 0
 AreServed harts workers turns n [] = Unit {0}
-AreServed harts workers turns n (s ∷ seats) = IsServed harts workers turns n s × AreServed harts workers turns (suc n) seats
+AreServed harts workers turns n (s ∷ seats) = HasServed harts workers turns n s × AreServed harts workers turns (suc n) seats

@@ -30,8 +30,8 @@ abbrev pub writing : Book → OwnList → List Note → View
 writing b o ns = record { book = Some b; lists = o ∷ []; notes = ns }
 
 -- a seat that another took in
-abbrev pub spent : View
-spent = record { book = None; lists = []; notes = [] }
+abbrev pub empty_view : View
+empty_view = record { book = None; lists = []; notes = [] }
 
 -- ---- a worker's seat is split off the book's
 
@@ -40,7 +40,7 @@ one_seat_more None = None
 one_seat_more (Some b) = Some (a_book b.from b.entries (suc b.seats))
 
 abbrev pub next_worker : Option Book → View
-next_worker None = spent
+next_worker None = empty_view
 next_worker (Some b) = working (own_list b.seats []) []
 
 abbrev pub hiring : View → View
@@ -75,8 +75,8 @@ longer_lists q None os = os
 longer_lists q (Some b) [] = []
 longer_lists q (Some b) (o ∷ os) = gains q b o ∷ os
 
-abbrev pub entered : Quantum → View → View
-entered q v = record { book = longer_book q v.book; lists = longer_lists q v.book v.lists; notes = v.notes }
+abbrev pub with_quantum_entry : Quantum → View → View
+with_quantum_entry q v = record { book = longer_book q v.book; lists = longer_lists q v.book v.lists; notes = v.notes }
 
 -- ---- the seat notes a hart, and the number of entries
 

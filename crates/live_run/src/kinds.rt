@@ -38,11 +38,11 @@ impl Split<View> for Hires {
 pub struct Meets;
 
 impl Join<View> for Meets {
-    ghost use Rattle.live_run.specs.Views.{together, spent};
+    ghost use Rattle.live_run.specs.Views.{together, empty_view};
 
     ghost both = { together };
 
-    ghost spent = { spent };
+    ghost spent = { empty_view };
 }
 
 /// Splits the book's seat off a worker's.

@@ -2,11 +2,11 @@
 
 ghost use Rattle.std.specs.Prelude.{false, ◌≡◌, ◌<◌, ◌≤◌, ◌++◌, length, map, IfOk};
 ghost use Rattle.session_spec.specs.Work.{IsWhole};
-ghost use Rattle.session.specs.Sessions.{begun};
+ghost use Rattle.session.specs.Sessions.{new_session};
 ghost use Rattle.live_run.specs.Receipts.{entries_past};
 ghost use Rattle.live_run.specs.Seats.{fresh_seat, fresh_seats};
 ghost use Rattle.live_run.specs.ByWorkers.{IsByWorkers};
-ghost use Rattle.live_run.specs.Serving.{AreServed, IsServed};
+ghost use Rattle.live_run.specs.Serving.{AreServed, HasServed};
 
 use crate::name::RunName;
 use crate::seat::Seat;
@@ -36,7 +36,7 @@ pub fn run_live<R: Threads + Wait + Sync, G: Gate + Sync>(
     team: Team,
     gate: &G,
 ) -> Result<Session, NoMemory>
-    requires begun { session ≡ begun session.inputs }
+    requires begun { session ≡ new_session session.inputs }
     requires workers { (1 ≤ team.workers) × (team.workers ≤ MAX_WORKERS) }
     requires harts { team.harts ≡ session.inputs.settings.harts }
     requires turns { (1 ≤ team.turns) × (team.turns ≤ MAX_QUANTUM) }
@@ -106,7 +106,7 @@ fn serve_all<I: RunName + Send + Sync, R: Threads + Wait + Sync, G: Gate + Sync>
         &|seat: Seat<I>| -> Result<Seat<I>, NoMemory>
             requires { (0 < team.workers) × (team.harts ≡ I.inputs.settings.harts)
                 × ((1 ≤ team.turns) × (team.turns ≤ MAX_QUANTUM)) × (seat ≡ fresh_seat seat.worker) }
-            ensures { IfOk result (λ served. IsServed team.harts team.workers team.turns seat.worker served) }
+            ensures { IfOk result (λ served. HasServed team.harts team.workers team.turns seat.worker served) }
         { serve(rt, alloc, shared, team, gate, seat) },
     )?;
     all_seats(alloc, results)

@@ -2,7 +2,7 @@
 
 ghost use Rattle.std.specs.Prelude.{◌≡◌, ◌≤◌, IfErr, IfOk, None};
 ghost use Rattle.session.specs.Given.{AreGiven};
-ghost use Rattle.session.specs.Sessions.{begun, IsStartFault};
+ghost use Rattle.session.specs.Sessions.{new_session, IsStartFault};
 ghost use Rattle.session_spec.specs.Opening.{bad_pick};
 ghost use Rattle.live_run.specs.Recorded.{IsLiveRecorded};
 
@@ -39,7 +39,7 @@ fn live_on<R: Threads + Wait + Sync, G: Gate + Sync>(
     gate: &G,
 ) -> Result<Recorded, NoMemory>
     requires given { AreGiven session.inputs }
-    requires begun { session ≡ begun session.inputs }
+    requires begun { session ≡ new_session session.inputs }
     requires settings { settings.now ≡ session.inputs.settings }
     requires workers { (1 ≤ course.now.team.workers) × (course.now.team.workers ≤ MAX_WORKERS) }
     requires harts { course.now.team.harts ≡ session.inputs.settings.harts }

@@ -19,11 +19,11 @@ pub struct Seat<I: RunName> {
 
 impl<I: RunName> Model for Seat<I> {
     ghost use Rattle.live_run.specs.Seats.{SeatData};
-    ghost use Rattle.live_run.specs.Locked.{harts_of, IsSeated};
+    ghost use Rattle.live_run.specs.Locked.{halted_harts, IsSeated};
 
     ghost Value = { SeatData };
 
-    ghost view = { λ s. record { worker = s.worker; receipts = s.receipts.items; noted = harts_of s.seat.me.0.notes } };
+    ghost view = { λ s. record { worker = s.worker; receipts = s.receipts.items; noted = halted_harts s.seat.me.0.notes } };
 
     ghost invariant = { λ s. IsSeated I.word s.worker s.receipts.items s.seat.table_id s.seat.me };
 }

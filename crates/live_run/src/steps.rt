@@ -1,7 +1,7 @@
 //! The steps under the lock, over seats of the word.
 
 ghost use Rattle.std.specs.Prelude.{◌≡◌, ◌<◌, ◌^◌, []};
-ghost use Rattle.live_run.specs.Views.{together, entered, noting, without_book, book_alone};
+ghost use Rattle.live_run.specs.Views.{together, with_quantum_entry, noting, without_book, book_alone};
 ghost use Rattle.live_run.specs.Rule.{AreBelowBook};
 ghost use Rattle.live_run.specs.Locked.{CanEnter, CanNote};
 
@@ -24,8 +24,8 @@ pub fn enter(
     requires tables { (seat.old.table_id ≡ word.now.table_id) × (book.table_id ≡ word.now.table_id) × (word.now.table_id.words ≡ 1) }
     requires can { CanEnter quantum.now.worker book.me seat.old.me made }
     ensures tables { (seat.new.table_id ≡ seat.old.table_id) × (result.table_id ≡ seat.old.table_id) }
-    ensures seat { seat.new.me ≡ (without_book (entered quantum.now (together seat.old.me.0 book.me.0)), []) }
-    ensures book { result.me ≡ (book_alone (entered quantum.now (together seat.old.me.0 book.me.0)), []) }
+    ensures seat { seat.new.me ≡ (without_book (with_quantum_entry quantum.now (together seat.old.me.0 book.me.0)), []) }
+    ensures book { result.me ≡ (book_alone (with_quantum_entry quantum.now (together seat.old.me.0 book.me.0)), []) }
     ensures below { AreBelowBook (together seat.old.me.0 book.me.0).book (together seat.old.me.0 book.me.0).lists }
 {
     word.join_seat::<Meets>(seat, book);

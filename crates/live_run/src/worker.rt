@@ -2,7 +2,7 @@
 
 ghost use Rattle.std.specs.Prelude.{◌≡◌, ◌<◌, ◌≤◌, IfOk};
 ghost use Rattle.live_run.specs.Seats.{fresh_seat};
-ghost use Rattle.live_run.specs.Serving.{AreHartsBelow, IsServed};
+ghost use Rattle.live_run.specs.Serving.{AreHartsBelow, HasServed};
 
 use crate::name::RunName;
 use crate::seat::Seat;
@@ -32,7 +32,7 @@ pub fn serve<I: RunName, R: Wait, G: Gate>(
     requires harts { team.harts ≡ I.inputs.settings.harts }
     requires turns { (1 ≤ team.turns) × (team.turns ≤ MAX_QUANTUM) }
     requires fresh { seat ≡ fresh_seat seat.worker }
-    ensures { IfOk result (λ served. IsServed team.harts team.workers team.turns seat.worker served) }
+    ensures { IfOk result (λ served. HasServed team.harts team.workers team.turns seat.worker served) }
 {
     let worker = seat.worker();
     let mut waits = harts_of(alloc, team, worker)?;

@@ -16,7 +16,7 @@ use Rattle.tramp_spec.proofs.Hops.{Hops, jump_hops}
 use Rattle.tramp_spec.proofs.Encodings.{jump_reads}
 use Rattle.machine.specs.Cores.{In, Row, Live, Core, is_live, is_current}
 use Rattle.machine.specs.Events.{Apart, MayWrite, HasShape}
-use Rattle.machine.specs.Effects.{row_of, written}
+use Rattle.machine.specs.Effects.{row_of, with_block}
 use Rattle.machine.proofs.Lists.{in_snoc, snoc_old, map_snoc, put_words_other, put_words_stand, stands_put, Stands}
 use Rattle.machine.proofs.Invariant.{Piece, the_row, IsBase, Linked, LiveOf, BaseShape, MiniShape, ShapedAs, Shaped, Placed, Leads, HasFamily, Door, Static, InBase, InMini, Dynamic, Inv}
 use Rattle.machine.proofs.Homes.{has_len, row_in}
@@ -153,7 +153,7 @@ module _ (c : Core) (s : Plain) (v : Inv c s) (b : Block) (low : tool_at c.progr
         (λ (k : InMini c.budget v.ps x y). inr (record { m = k.m; b = k.b; is_in = snoc_old v.ps new k.m k.is_in; linked = k.linked; family = family_more k.m k.b k.family; was = k.was; inside = k.inside; home = k.home; before = k.before; saved = k.saved; i = k.i; f = k.f; pc = k.pc; safe = k.safe })) r)) (d.hart e);
   }
 
-  write_kept : Kept All (λ y. y ≡ new) (λ r. r.status) Nowhere NoMore v.clock v.ps c (written b c) s
+  write_kept : Kept All (λ y. y ≡ new) (λ r. r.status) Nowhere NoMore v.clock v.ps c (with_block b c) s
   write_kept = record {
     inv = record {
       ground = v.ground;
@@ -182,7 +182,7 @@ pub record Wrote (c : Core) (s : Plain) (v : Inv c s) (b : Block) : Type 0 where
   pub new : Piece
   pub base : new.row.base ≡ b.base
   pub words : b.base ≡ false → (jump : ℕ) × (b.words ≡ new.body ++ tool jump ∷ [])
-  pub kept : Kept All (λ y. y ≡ new) (λ r. r.status) Nowhere NoMore v.clock v.ps c (written b c) s
+  pub kept : Kept All (λ y. y ≡ new) (λ r. r.status) Nowhere NoMore v.clock v.ps c (with_block b c) s
 
 write_base : (c : Core) (s : Plain) (v : Inv c s) (b : Block) → MayWrite c b → b.base ≡ true → HasShape c b true → Wrote c s v b
 write_base c s v b may e h =

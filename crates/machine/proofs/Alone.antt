@@ -7,7 +7,7 @@ use Rattle.rv_word.specs.Exec.{Prog}
 use Rattle.rv_word.specs.declared.outcome.Cause.{Cause}
 use Rattle.tramp_spec.specs.Harts.{Hart, Solo, is_tick, step_of}
 use Rattle.code_store.specs.Stores.{StoredCode}
-use Rattle.machine.specs.Alone.{alone_of, fetched_alone, turned_alone, may_alone, Leads, IsPlaced, ArePlaced, TakesAlone}
+use Rattle.machine.specs.Alone.{alone_of, fetched_alone, turned_alone, may_alone, TurnsLead, IsSoloPlaced, ArePlaced, TakesAlone}
 use Rattle.machine.specs.Cores.{Row, Core}
 use Rattle.machine.specs.Events.{Event, Turn}
 use Rattle.machine.specs.Performing.{home_in_store}
@@ -24,11 +24,11 @@ use Rattle.machine.proofs.Reaching.{reaches_more}
 
 -- ---- more turns
 
-pub leads_on : (s : StoredCode) (budget h k n : ℕ) (x y z : Solo) → Leads s budget h k x y → Leads s budget h n y z → Leads s budget h (k + n) x z
-leads_on s budget h zero n x y z l m = let e : n ≡ 0 + n = omega arith in subst (λ i. Leads s budget h i x z) e (subst (λ v. Leads s budget h n v z) l m)
-leads_on s budget h (suc k) n x y z l m = let e : suc (k + n) ≡ suc k + n = omega arith in subst (λ i. Leads s budget h i x z) e (l.0, leads_on s budget h k n (turned_alone s h x) y z l.1 m)
+pub leads_on : (s : StoredCode) (budget h k n : ℕ) (x y z : Solo) → TurnsLead s budget h k x y → TurnsLead s budget h n y z → TurnsLead s budget h (k + n) x z
+leads_on s budget h zero n x y z l m = let e : n ≡ 0 + n = omega arith in subst (λ i. TurnsLead s budget h i x z) e (subst (λ v. TurnsLead s budget h n v z) l m)
+leads_on s budget h (suc k) n x y z l m = let e : suc (k + n) ≡ suc k + n = omega arith in subst (λ i. TurnsLead s budget h i x z) e (l.0, leads_on s budget h k n (turned_alone s h x) y z l.1 m)
 
-pub leads_one : (s : StoredCode) (budget h k : ℕ) (x y z : Solo) → Leads s budget h k x y → IsTrue (may_alone budget y) → z ≡ turned_alone s h y → Leads s budget h (k + 1) x z
+pub leads_one : (s : StoredCode) (budget h k : ℕ) (x y z : Solo) → TurnsLead s budget h k x y → IsTrue (may_alone budget y) → z ≡ turned_alone s h y → TurnsLead s budget h (k + 1) x z
 leads_one s budget h k x y z l may e = leads_on s budget h k 1 x y z l (may, e)
 
 pub none_is : (stop : Option Cause) → is_none stop ≡ true → stop ≡ None
@@ -46,7 +46,7 @@ one_at_most true n = (omega arith, omega arith)
 one_at_most false n = (omega arith, omega arith)
 
 -- no turn takes ticks away, and none is more than one
-pub leads_ticks : (s : StoredCode) (budget h k : ℕ) (x z : Solo) → Leads s budget h k x z → (x.hart.ticks ≤ z.hart.ticks) × (z.hart.ticks ≤ x.hart.ticks + k)
+pub leads_ticks : (s : StoredCode) (budget h k : ℕ) (x z : Solo) → TurnsLead s budget h k x z → (x.hart.ticks ≤ z.hart.ticks) × (z.hart.ticks ≤ x.hart.ticks + k)
 leads_ticks s budget h zero x z l = let t = ap (λ (v : Solo). v.hart.ticks) l in (omega arith, omega arith)
 leads_ticks s budget h (suc k) x z l =
     let rest = leads_ticks s budget h k (turned_alone s h x) z l.1 in
@@ -130,7 +130,7 @@ module _ (s : StoredCode) (rows : List Row) (budget : ℕ) (owners : AreOwners s
   runs : (harts : List Hart) (x : Solo) → slice_get harts h ≡ Some x.hart → is_runnable (before harts x) h ≡ may_alone budget x
   runs harts x e = ap (λ o. may_turn o budget) e
 
-  placed : (harts : List Hart) (x : Solo) → IsReached (before harts x) → slice_get harts h ≡ Some x.hart → IsPlaced s budget x
+  placed : (harts : List Hart) (x : Solo) → IsReached (before harts x) → slice_get harts h ≡ Some x.hart → IsSoloPlaced s budget x
   placed harts x r e =
       record {
         tool = λ i. (stands (before harts x) r h x.hart e i).in_tool;
@@ -144,7 +144,7 @@ module _ (s : StoredCode) (rows : List Row) (budget : ℕ) (owners : AreOwners s
     pub many : length (quantum_turns k h (before harts x)) ≡ k
     pub ticks : z.hart.ticks ≡ x.hart.ticks + length (owns (quantum_turns k h (before harts x)) (before harts x))
 
-  pub led : (k : ℕ) (harts : List Hart) (x z : Solo) → IsReached (before harts x) → slice_get harts h ≡ Some x.hart → Leads s budget h k x z → Led k harts x z
+  pub led : (k : ℕ) (harts : List Hart) (x z : Solo) → IsReached (before harts x) → slice_get harts h ≡ Some x.hart → TurnsLead s budget h k x z → Led k harts x z
   led zero harts x z r e l = subst (λ v. Led zero harts x v) (sym l) none
     where
       none : Led zero harts x x

@@ -11,7 +11,7 @@ use Rattle.tramp_spec.specs.Slots.{VariableSlot, set_place, set_places, places_o
 use Rattle.frame_walk.specs.Openings.{opening}
 use Rattle.frame_walk.specs.Walks.{walk_now}
 use Rattle.machine.specs.Cores.{Core}
-use Rattle.machine.specs.Effects.{armed}
+use Rattle.machine.specs.Effects.{armed_hart}
 use Rattle.machine.specs.Events.{IsQuiet}
 use Rattle.machine.proofs.Lists.{length_slice_set}
 use Rattle.machine.proofs.Invariant.{Piece, Outside, InBase, InMini, Dynamic, Inv}
@@ -43,7 +43,7 @@ arms_hart t budget ps bank x y quiet len d =
           (λ (r : InBase t budget ps x y ⊎ InMini budget ps x y). absurd (⊎_elim (λ (k : InBase t budget ps x y). true≢false (sym k.inside ∙ quiet)) (λ (k : InMini budget ps x y). true≢false (sym k.inside ∙ quiet)) r)) (d.hart e);
     }
 
-unfoldable pub arms : (c : Core) (s : Plain) (i : Placed) → IsQuiet c → Inv c s → Inv (record c { harts = map (armed c i) c.harts }) s
+unfoldable pub arms : (c : Core) (s : Plain) (i : Placed) → IsQuiet c → Inv c s → Inv (record c { harts = map (armed_hart c i) c.harts }) s
 arms c s i quiet v =
     record {
       ground = v.ground;
@@ -52,9 +52,9 @@ arms c s i quiet v =
       some = v.some;
       static = v.static;
       prog = v.prog;
-      many = length-map c.harts (armed c i) ∙ v.many;
+      many = length-map c.harts (armed_hart c i) ∙ v.many;
       harts = λ h x y ex ey.
-          let q = get_map (armed c i) c.harts h x ex in
+          let q = get_map (armed_hart c i) c.harts h x ex in
           let d = v.harts h q.0 y q.1 ey in
           subst (λ (z : Hart). Dynamic c.program c.budget v.ps z y) (sym q.2)
           (arms_hart c.program c.budget v.ps (set_places (places_of i) (opening i.opens (walk_now c.prog q.0) i.vars) (q.0).ticks (q.0).bank) q.0 y (quiet h q.0 q.1) (length_places (places_of i) (opening i.opens (walk_now c.prog q.0) i.vars) (q.0).ticks (q.0).bank ∙ d.bank) d);

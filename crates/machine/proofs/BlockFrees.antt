@@ -7,7 +7,7 @@ use Rattle.std.proofs.lemmas.List.{drop_all}
 use Rattle.std.proofs.lemmas.Option.{none-some}
 use Rattle.code_store.specs.Owners.{Owners, owners_without}
 use Rattle.bucket_chains.specs.Entries.{HasNone, bucket_of, IsFirst}
-use Rattle.bucket_chains.specs.Left.{buckets_of, left}
+use Rattle.bucket_chains.specs.Left.{buckets_of, present_entries}
 use Rattle.bucket_chains.proofs.Nexts.{from_next}
 use Rattle.bucket_chains.proofs.Walks.{IsChange, kept_if, left_filter}
 use Rattle.machine.specs.Cores.{is_current}
@@ -28,12 +28,12 @@ kept_off p x off = ap not (and_left (x.point == p) (not (is_current (status_of x
 pub take_changes : (p : ℕ) → IsChange point_of (bucket_of p) (take_retired p)
 take_changes p = record { none = refl; other = λ x off. cond-true (is_kept p (row_of x)) (Some x) None (kept_off p x off) }
 
-pub all_taken : (p : ℕ) (old now : List (Option BlockRow)) → now ≡ map (take_retired p) old → map row_of (left now) ≡ filter (is_kept p) (map row_of (left old))
-all_taken p old now e = ap (λ es. map row_of (left es)) e ∙ (ap (map row_of) (left_filter (λ x. is_kept p (row_of x)) old) ∙ sym (map_filter row_of (is_kept p) (left old)))
+pub all_taken : (p : ℕ) (old now : List (Option BlockRow)) → now ≡ map (take_retired p) old → map row_of (present_entries now) ≡ filter (is_kept p) (map row_of (present_entries old))
+all_taken p old now e = ap (λ es. map row_of (present_entries es)) e ∙ (ap (map row_of) (left_filter (λ x. is_kept p (row_of x)) old) ∙ sym (map_filter row_of (is_kept p) (present_entries old)))
 
 -- the words of the blocks from a place on are freed
 abbrev pub frees : ℕ → List (Option BlockRow) → Owners → Owners
-frees p es owners = owners_left p (map row_of (left es)) owners
+frees p es owners = owners_left p (map row_of (present_entries es)) owners
 
 frees_one : (p : ℕ) (e : Option BlockRow) (es : List (Option BlockRow)) (owners : Owners) → (option_map (λ x. bucket_of (point_of x)) e ≡ Some (bucket_of p) → ⊥) → frees p (e ∷ es) owners ≡ frees p es owners
 frees_one p None es owners off = refl

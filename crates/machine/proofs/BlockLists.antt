@@ -12,7 +12,7 @@ use Rattle.tramp_spec.specs.Blocks.{target_or}
 use Rattle.tramp_spec.specs.Codes.{Code, fetched_at, is_tool_word}
 use Rattle.tramp_spec.specs.Marks.{tool}
 use Rattle.tramp_spec.specs.declared.mark.MarkedWord.{MarkedWord}
-use Rattle.bucket_chains.specs.Left.{left}
+use Rattle.bucket_chains.specs.Left.{present_entries}
 use Rattle.machine.specs.States.{words_in}
 use Rattle.machine.specs.Events.{target_at}
 use Rattle.machine.specs.Views.{row_of}
@@ -31,7 +31,7 @@ find_map f q (x ∷ xs) = found_at f (q (f x)) x (find (λ y. q (f y)) xs) (find
 -- ---- places
 
 -- what is left stays where empty places are left out
-pub left_all : {A : Type 0} (es : List (Option A)) → left (filter is_some es) ≡ left es
+pub left_all : {A : Type 0} (es : List (Option A)) → present_entries (filter is_some es) ≡ present_entries es
 left_all [] = refl
 left_all (None ∷ es) = left_all es
 left_all (Some x ∷ es) = ap (λ l. x ∷ l) (left_all es)
@@ -39,29 +39,29 @@ left_all (Some x ∷ es) = ap (λ l. x ∷ l) (left_all es)
 -- ---- words
 
 abbrev words_from : ℕ → List (Option BlockRow) → ℕ
-words_from i es = words_in (map row_of (left (drop i es)))
+words_from i es = words_in (map row_of (present_entries (drop i es)))
 
 some_words : (es : List (Option BlockRow)) (i : ℕ) (x : BlockRow) → get_or es i None ≡ Some x → words_from i es ≡ x.len + words_from (suc i) es
 some_words [] i x h = absurd (none-some x h)
-some_words (e ∷ es) zero x h = ap (λ o. words_in (map row_of (left (o ∷ es)))) h
+some_words (e ∷ es) zero x h = ap (λ o. words_in (map row_of (present_entries (o ∷ es)))) h
 some_words (e ∷ es) (suc i) x h = some_words es i x h
 
 no_words : (es : List (Option BlockRow)) (i : ℕ) → get_or es i None ≡ None → words_from i es ≡ words_from (suc i) es
 no_words [] zero h = refl
 no_words [] (suc i) h = refl
-no_words (e ∷ es) zero h = ap (λ o. words_in (map row_of (left (o ∷ es)))) h
+no_words (e ∷ es) zero h = ap (λ o. words_in (map row_of (present_entries (o ∷ es)))) h
 no_words (e ∷ es) (suc i) h = no_words es i h
 
 -- those of a block, and of what stands after it
-pub words_at : (es : List (Option BlockRow)) (i : ℕ) (x : BlockRow) → get_or es i None ≡ Some x → words_in (map row_of (left (drop i es))) ≡ x.len + words_in (map row_of (left (drop (i + 1) es)))
+pub words_at : (es : List (Option BlockRow)) (i : ℕ) (x : BlockRow) → get_or es i None ≡ Some x → words_in (map row_of (present_entries (drop i es))) ≡ x.len + words_in (map row_of (present_entries (drop (i + 1) es)))
 words_at es i x h = some_words es i x h ∙ ap (λ k. x.len + words_from k es) (sym (add-one i))
 
 -- of no block
-pub words_past : (es : List (Option BlockRow)) (i : ℕ) → get_or es i None ≡ None → words_in (map row_of (left (drop i es))) ≡ words_in (map row_of (left (drop (i + 1) es)))
+pub words_past : (es : List (Option BlockRow)) (i : ℕ) → get_or es i None ≡ None → words_in (map row_of (present_entries (drop i es))) ≡ words_in (map row_of (present_entries (drop (i + 1) es)))
 words_past es i h = no_words es i h ∙ ap (λ k. words_from k es) (sym (add-one i))
 
-pub words_out : (es : List (Option BlockRow)) (i : ℕ) → length es ≤ i → words_in (map row_of (left (drop i es))) ≡ 0
-words_out es i le = ap (λ l. words_in (map row_of (left l))) (drop_all i es le)
+pub words_out : (es : List (Option BlockRow)) (i : ℕ) → length es ≤ i → words_in (map row_of (present_entries (drop i es))) ≡ 0
+words_out es i le = ap (λ l. words_in (map row_of (present_entries l))) (drop_all i es le)
 
 -- ---- links
 

@@ -7,7 +7,7 @@ use Rattle.std.specs.Cmp.{both_ways}
 use Rattle.std.proofs.lemmas.Option.{none-some}
 use Rattle.tramp_spec.specs.Codes.{Code}
 use Rattle.bucket_chains.specs.Entries.{bucket_at, bucket_of, IsFirst}
-use Rattle.bucket_chains.specs.Left.{buckets_of, left}
+use Rattle.bucket_chains.specs.Left.{buckets_of, present_entries}
 use Rattle.bucket_chains.proofs.Nexts.{Searches, buckets_len, entry_there, fewer_places, next_within, places_from, read_entry, search_begun, search_found, search_on}
 use Rattle.machine.specs.Cores.{In, Row, is_current, is_live}
 use Rattle.machine.specs.LinkedSites.{is_live_mini}
@@ -94,7 +94,7 @@ live_same p a rows alone = by (row_at rows a) refl (find (begins_at p a) rows) r
 -- ---- looks
 
 -- a block that stands at a place
-pub left_in : {A : Type 0} (es : List (Option A)) (place : ℕ) (x : A) → get_or es place None ≡ Some x → In x (left es)
+pub left_in : {A : Type 0} (es : List (Option A)) (place : ℕ) (x : A) → get_or es place None ≡ Some x → In x (present_entries es)
 left_in [] place x e = absurd (none-some x e)
 left_in (None ∷ es) zero x e = absurd (none-some x e)
 left_in (Some y ∷ es) zero x e = let i : y ≡ x = cc in inl (sym i)
@@ -142,13 +142,13 @@ module _ (p : ℕ) (q : Row → Bool) (own : (r : Row) → q r ≡ true → r.po
           (subst (λ bs. IsFirst (bucket_of p) (place + 1) bs r) fit (h (bucket_of p) (subst (λ bs. bucket_at bs place ≡ Some (bucket_of p)) (sym fit) here.place)))
 
       -- the block stands among the others
-      pub row_there : (x : BlockRow) → o ≡ Some x → In (row_of x) (map row_of (left es))
-      row_there x e = map_in row_of (left es) x (left_in es place x (read_entry es place o look_within read ∙ e))
+      pub row_there : (x : BlockRow) → o ≡ Some x → In (row_of x) (map row_of (present_entries es))
+      row_there x e = map_in row_of (present_entries es) x (left_in es place x (read_entry es place o look_within read ∙ e))
 
-      pub look_found : (x : BlockRow) → o ≡ Some x → q (row_of x) ≡ true → Some (row_of x) ≡ find q (map row_of (left es))
+      pub look_found : (x : BlockRow) → o ≡ Some x → q (row_of x) ≡ true → Some (row_of x) ≡ find q (map row_of (present_entries es))
       look_found x e passes =
           ap (option_map row_of) (search_found point_of (bucket_of p) (λ x. q (row_of x)) same_bucket es place x here (read_entry es place o look_within read ∙ e) passes)
-          ∙ find_map row_of q (left es)
+          ∙ find_map row_of q (present_entries es)
 
-  pub look_over : (next : Option ℕ) → next ≡ None → Looks p q es next → None ≡ find q (map row_of (left es))
-  look_over next is looks = ap (option_map row_of) (subst (Looks p q es) is looks).rest ∙ find_map row_of q (left es)
+  pub look_over : (next : Option ℕ) → next ≡ None → Looks p q es next → None ≡ find q (map row_of (present_entries es))
+  look_over next is looks = ap (option_map row_of) (subst (Looks p q es) is looks).rest ∙ find_map row_of q (present_entries es)

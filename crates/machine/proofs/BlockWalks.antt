@@ -7,7 +7,7 @@ use Rattle.std.proofs.lemmas.List.{length-set}
 use Rattle.std.specs.Vec.{vec_capacity, with_item}
 use Rattle.std.specs.Cmp.{both_ways}
 use Rattle.bucket_chains.specs.Entries.{Entries, bucket_at, bucket_of, IsFirst}
-use Rattle.bucket_chains.specs.Left.{buckets_of, left}
+use Rattle.bucket_chains.specs.Left.{buckets_of, present_entries}
 use Rattle.bucket_chains.proofs.Nexts.{IsNext, WalkedTo, buckets_len, is_next, less_buckets, same_buckets, walk_begun, walked_on, entry_there, fewer_places, next_within, places_from, read_entry}
 use Rattle.bucket_chains.proofs.Walks.{IsChange, IsWalked, changed, stayed, left_map}
 use Rattle.machine.specs.Cores.{In, Row, Status}
@@ -78,7 +78,7 @@ module _ (p : ℕ) (g : Option BlockRow → Option BlockRow) (old now : Inside) 
     walk_entry = read_entry now.rows.items place o walk_within read
 
     -- the block is one of the old ones
-    pub walk_old : (x : BlockRow) → o ≡ Some x → In x (left old.rows.items)
+    pub walk_old : (x : BlockRow) → o ≡ Some x → In x (present_entries old.rows.items)
     walk_old x e = left_in old.rows.items place x (sym (at_place.walked.rest place (omega arith)) ∙ (walk_entry ∙ e))
 
     pub walk_none : o ≡ None → ⊥
@@ -153,10 +153,10 @@ pub put_miss : (q : Row → Bool) (s : BlockStatus) (x : BlockRow) → q (row_of
 put_miss q s x e = ap (λ b. Some (record x { status = cond b s x.status })) e
 
 -- the blocks that are left have their new statuses
-pub all_put : (q : Row → Bool) (s : BlockStatus) (old now : List (Option BlockRow)) → now ≡ map (option_map (put_if q s)) old → map row_of (left now) ≡ map (with_status (status_if q (status_of s))) (map row_of (left old))
+pub all_put : (q : Row → Bool) (s : BlockStatus) (old now : List (Option BlockRow)) → now ≡ map (option_map (put_if q s)) old → map row_of (present_entries now) ≡ map (with_status (status_if q (status_of s))) (map row_of (present_entries old))
 all_put q s old now e =
-    ap (λ es. map row_of (left es)) e
-    ∙ (ap (map row_of) (left_map (put_if q s) old) ∙ sym (map_follows row_of (put_if q s) (with_status (status_if q (status_of s))) (left old) (row_put q s)))
+    ap (λ es. map row_of (present_entries es)) e
+    ∙ (ap (map row_of) (left_map (put_if q s) old) ∙ sym (map_follows row_of (put_if q s) (with_status (status_if q (status_of s))) (present_entries old) (row_put q s)))
 
 maps_same : {A B : Type 0} (f h : A → B) (xs : List A) → ((x : A) → In x xs → f x ≡ h x) → map f xs ≡ map h xs
 maps_same f h [] e = refl

@@ -9,19 +9,19 @@ use Rattle.tramp_spec.specs.declared.block.Block.{Block}
 use Rattle.code_store.specs.Owners.{owners_with}
 use Rattle.code_store.specs.Stores.{IsInToolText, StoredCode}
 use Rattle.machine.specs.Cores.{In, Row, Status, Live, Core}
-use Rattle.machine.specs.Effects.{after, is_kept, with_status}
+use Rattle.machine.specs.Effects.{after_event, is_kept, with_status}
 use Rattle.machine.specs.Effects as effects
 use Rattle.machine.specs.Events.{Event, Free, HasMini, May, MayWrite, Write, current_base, is_before}
 use Rattle.machine.specs.Links.{HasLink, owners_left}
 use Rattle.machine.specs.Reached.{AreOwners, IsReached, owner_by}
-use Rattle.machine.specs.Views.{BlockList, IsSound, core_of}
+use Rattle.machine.specs.Views.{BlockList, AreMachineParts, core_of}
 use Rattle.machine.proofs.BlockLooks.{base_own, is_base_of}
 use Rattle.machine.proofs.Lists.{find_gives}
 use Rattle.machine.proofs.Owning.{has_word, owners_freed, owners_more, owners_same, word_holds}
 use Rattle.machine.proofs.Unlink.{before_of}
 use Rattle.machine.proofs.Reaching.{good, links, one_at, one_row, reaches_more, within}
 
-module _ (harts : List Hart) (prog : Prog) (store : StoredCode) (blocks : BlockList) (budget : ℕ) (k : IsSound harts prog store blocks.rows budget) where
+module _ (harts : List Hart) (prog : Prog) (store : StoredCode) (blocks : BlockList) (budget : ℕ) (k : AreMachineParts harts prog store blocks.rows budget) where
   abbrev core : Core
   core = core_of harts prog store blocks.rows budget
 
@@ -55,12 +55,12 @@ module _ (harts : List Hart) (prog : Prog) (store : StoredCode) (blocks : BlockL
   one_owner : (x y : Row) (a : ℕ) → In x blocks.rows → In y blocks.rows → has_word a x ≡ true → has_word a y ≡ true → x ≡ y
   one_owner x y a hx hy ex ey = let v = good core k.reached in one_row core v.0 v.1 x y a hx hy (word_holds a x ex) (word_holds a y ey)
 
-  kept : (e : Event) (store' : StoredCode) (rows' : List Row) → May core e → core_of harts prog store' rows' budget ≡ after core e → AreOwners store'.owners rows' → IsSound harts prog store' rows' budget
+  kept : (e : Event) (store' : StoredCode) (rows' : List Row) → May core e → core_of harts prog store' rows' budget ≡ after_event core e → AreOwners store'.owners rows' → AreMachineParts harts prog store' rows' budget
   kept e store' rows' may same owners = record { reached = subst IsReached (sym same) (reaches_more core e k.reached may); owners = owners; reservations = k.reservations; few = k.few; countable = k.countable }
 
   -- words are put in the places of others, and blocks get other statuses
-  pub relinked : (e : Event) (code : Code) (f : Row → Status) (store' : StoredCode) (blocks' : BlockList) → May core e → record core { code = code; rows = map (with_status f) blocks.rows } ≡ after core e
-      → store' ≡ record store { code = code } → blocks' ≡ record blocks { rows = map (with_status f) blocks.rows } → IsSound harts prog store' blocks'.rows budget
+  pub relinked : (e : Event) (code : Code) (f : Row → Status) (store' : StoredCode) (blocks' : BlockList) → May core e → record core { code = code; rows = map (with_status f) blocks.rows } ≡ after_event core e
+      → store' ≡ record store { code = code } → blocks' ≡ record blocks { rows = map (with_status f) blocks.rows } → AreMachineParts harts prog store' blocks'.rows budget
   relinked e code f store' blocks' may same s b =
       kept e store' blocks'.rows may
       (ap (λ (z : StoredCode). core_of harts prog z blocks'.rows budget) s ∙ (ap (λ (z : BlockList). core_of harts prog (record store { code = code }) z.rows budget) b ∙ same))
@@ -68,7 +68,7 @@ module _ (harts : List Hart) (prog : Prog) (store : StoredCode) (blocks : BlockL
 
   -- a block is written
   pub put : (b : Block) (store' : StoredCode) (blocks' : BlockList) (room : ℕ) → MayWrite core b → store' ≡ record store { code = put_words b.at b.words store.code; owners = owners_with b.at (length b.words) b.point store.owners }
-      → blocks' ≡ record { rows = blocks.rows ++ effects.row_of b ∷ []; room = room } → IsSound harts prog store' blocks'.rows budget
+      → blocks' ≡ record { rows = blocks.rows ++ effects.row_of b ∷ []; room = room } → AreMachineParts harts prog store' blocks'.rows budget
   put b store' blocks' room may s e =
       kept (Write b) store' blocks'.rows may
       (ap (λ (z : StoredCode). core_of harts prog z blocks'.rows budget) s
@@ -77,7 +77,7 @@ module _ (harts : List Hart) (prog : Prog) (store : StoredCode) (blocks : BlockL
 
   -- the retired blocks of a point are freed
   pub freed : (p : ℕ) (store' : StoredCode) (blocks' : BlockList) → May core (Free p) → store' ≡ record store { owners = owners_left p blocks.rows store.owners } → blocks' ≡ record blocks { rows = filter (is_kept p) blocks.rows }
-      → IsSound harts prog store' blocks'.rows budget
+      → AreMachineParts harts prog store' blocks'.rows budget
   freed p store' blocks' may s e =
       kept (Free p) store' blocks'.rows may
       (ap (λ (z : StoredCode). core_of harts prog z blocks'.rows budget) s ∙ ap (λ (z : BlockList). core_of harts prog (record store { owners = owners_left p blocks.rows store.owners }) z.rows budget) e)

@@ -10,7 +10,7 @@ use Rattle.tramp_spec.specs.Marks.{tool}
 use Rattle.tramp_spec.proofs.Hops.{Hops, target_is}
 use Rattle.machine.specs.Cores.{Core, Row, Status}
 use Rattle.machine.specs.Effects as effects
-use Rattle.machine.specs.Effects.{after, at_set, mini_linked, point_linked, point_unlinked}
+use Rattle.machine.specs.Effects.{after_event, at_set, mini_linked, point_linked, point_unlinked}
 use Rattle.machine.specs.Events as events
 use Rattle.machine.specs.Events.{Event, Turn, Write, LinkMini, UnlinkMini, LinkPoint, UnlinkPoint, Free, Arm, Sample, current_base, link_at, next_of, target_at}
 use Rattle.machine.specs.Replays.{replay}
@@ -42,7 +42,7 @@ fixed_own : (o : Option ℕ) (p : ℕ) (c : Core) → Fixed c (point_unlinked o 
 fixed_own None p c = (refl, refl)
 fixed_own (Some w) p c = (refl, refl)
 
-pub fixed : (c : Core) (e : Event) → Fixed c (after c e)
+pub fixed : (c : Core) (e : Event) → Fixed c (after_event c e)
 fixed c (Turn h) = fixed_turn (slice_get c.harts h) c h
 fixed c (Write b) = (refl, refl)
 fixed c (LinkMini p m) = fixed_link (current_base c.rows p) m c
@@ -55,7 +55,7 @@ fixed c (Sample i) = (refl, refl)
 
 pub program_stays : (es : List Event) (c : Core) → (replay es c).program ≡ c.program
 program_stays [] c = refl
-program_stays (e ∷ es) c = program_stays es (after c e) ∙ (fixed c e).0
+program_stays (e ∷ es) c = program_stays es (after_event c e) ∙ (fixed c e).0
 
 -- ---- a status is set
 

@@ -11,7 +11,7 @@ use Rattle.tramp_spec.specs.Harts.{Hart}
 use Rattle.code_store.specs.Stores.{first_code}
 use Rattle.machine.specs.Cores.{first_hart}
 use Rattle.machine.specs.Laws.{IsProgram}
-use Rattle.machine.specs.Views.{IsSound}
+use Rattle.machine.specs.Views.{AreMachineParts}
 
 -- the harts so far, one more, and those to come
 pub hart_step : (xs new : List Hart) (x : Hart) (image : Image) (n h : ℕ) → h < n → new ≡ xs ++ x ∷ [] → x ≡ first_hart (start_hart image n h) → new ++ map first_hart (harts_from (n - (h + 1)) (h + 1) image n) ≡ xs ++ map first_hart (harts_from (n - h) h image n)
@@ -26,7 +26,7 @@ length_harts : (more h n : ℕ) (image : Image) → length (harts_from more h im
 length_harts zero h n image = refl
 length_harts (suc more) h n image = ap suc (length_harts more (h + 1) n image)
 
-pub first_sound : (image : Image) (n budget : ℕ) → IsProgram image → n ≤ MAX_HARTS → budget < 2 ^ 64 → IsSound (map first_hart (harts_from n 0 image n)) (start image n).prog (first_code image) [] budget
+pub first_sound : (image : Image) (n budget : ℕ) → IsProgram image → n ≤ MAX_HARTS → budget < 2 ^ 64 → AreMachineParts (map first_hart (harts_from n 0 image n)) (start image n).prog (first_code image) [] budget
 first_sound image n budget p few low =
     record {
       reached = record { image = image; many = n; events = []; program = p; legal = tt; is = refl };

@@ -19,10 +19,10 @@ use Rattle.frame_walk.specs.Walks.{walk, walk_now}
 use Rattle.prim_code.specs.Fitting.{AreStmtsOf, IsMeasurable}
 use Rattle.prim_code.proofs.Listing.{length_places}
 use Rattle.machine.specs.Cores.{In, Row, Live, Core, is_current}
-use Rattle.machine.specs.Effects.{after, armed}
+use Rattle.machine.specs.Effects.{after_event, armed_hart}
 use Rattle.machine.specs.Events.{Arm, MayArm, IsEntered}
 use Rattle.machine.specs.Instruments.{words_at, body_in, HasBody, CarriesSites, Carries, Spares, IsSpared}
-use Rattle.machine.specs.Measures.{site_at, opened}
+use Rattle.machine.specs.Measures.{site_at, opening_level}
 use Rattle.machine.proofs.Arming.{arms, get_map}
 use Rattle.machine.proofs.Force.{Fits, Mine, Ready, Reads}
 use Rattle.machine.proofs.ForceEvents.{Known}
@@ -226,7 +226,7 @@ module _ (c : Core) (s : Plain) (v : Inv c s) (i : Placed) (plan : Plan) (may : 
   -- ---- the slots
 
   stands : (cap : c.budget < 2 ^ 58) (h : ℕ) (x : Hart) (y : PlainHart) → slice_get c.harts h ≡ Some x → slice_get s.harts h ≡ Some y → y.ticks ≤ c.budget
-      → Stand i c.budget (opened plan s h) (set_places (places_of i) (opening i.opens (walk_now c.prog x) i.vars) x.ticks x.bank) x.ticks
+      → Stand i c.budget (opening_level plan s h) (set_places (places_of i) (opening i.opens (walk_now c.prog x) i.vars) x.ticks x.bank) x.ticks
   stands cap h x y ex ey low =
       let d = v.harts h x y ex ey in
       let t = d.ticks in
@@ -235,17 +235,17 @@ module _ (c : Core) (s : Plain) (v : Inv c s) (i : Placed) (plan : Plan) (may : 
       let below = opens_far_below plan m s h in
       let long : length (opening plan.opens (walk s h) plan.vars) ≡ length i.vars = below.many ∙ ap length (sym k.vars) in
       let r = arming_sets (places_of i) values x.bank spare x.ticks k.places (long ∙ sym (length_places i.slots i.vars k.many)) d.bank (omega arith) (below.spare spare (omega arith)) in
-      subst (λ n. Stand i c.budget (opened plan s h) (set_places (places_of i) n x.ticks x.bank) x.ticks) (sym (same_opening c s v i plan k h x y ex ey (may.quiet h x ex)))
+      subst (λ n. Stand i c.budget (opening_level plan s h) (set_places (places_of i) n x.ticks x.bank) x.ticks) (sym (same_opening c s v i plan k h x y ex ey (may.quiet h x ex)))
       (record { size = long; slots = r.stand; runs = λ p e z. r.timers 0 p e z })
 
-  pub arms_known : c.budget < 2 ^ 58 → AreWithin c.budget s → Known i plan (families_in v.ps) (ages_in v.ps) (after c (Arm i)) s (λ h. opened plan s h)
+  pub arms_known : c.budget < 2 ^ 58 → AreWithin c.budget s → Known i plan (families_in v.ps) (ages_in v.ps) (after_event c (Arm i)) s (λ h. opening_level plan s h)
   unfolding arms
   arms_known cap low =
       record {
         inv = arms c s i may.quiet v;
         ready = ready;
         reads = λ h x y ex ey.
-            let o = get_map (armed c i) c.harts h x ex in
-            subst (λ (u : Hart). Reads i plan (families_in v.ps) (ages_in v.ps) c.program c.budget v.ps u y (opened plan s h)) (sym o.2)
+            let o = get_map (armed_hart c i) c.harts h x ex in
+            subst (λ (u : Hart). Reads i plan (families_in v.ps) (ages_in v.ps) c.program c.budget v.ps u y (opening_level plan s h)) (sym o.2)
             (inl (may.quiet h o.0 o.1, stands cap h o.0 y o.1 ey (low h y ey)));
       }

@@ -19,11 +19,11 @@ use Rattle.frame_walk.specs.Openings.{opening}
 use Rattle.frame_walk.specs.Walks.{walk_now}
 use Rattle.prim_code.specs.Standing.{SameSlots}
 use Rattle.machine.specs.Cores.{In, Row, Status, Live, Retired, Core, is_current}
-use Rattle.machine.specs.Effects.{after, owned, armed, at_set, retired_at, is_kept, written, mini_linked, point_linked, point_unlinked}
+use Rattle.machine.specs.Effects.{after_event, owned, armed_hart, at_set, retired_at, is_kept, with_block, mini_linked, point_linked, point_unlinked}
 use Rattle.machine.specs.Events.{Event, Turn, Write, LinkMini, UnlinkMini, LinkPoint, UnlinkPoint, Free, Arm, Sample, May, MayWrite, MayLinkMini, MayLinkPoint, HasMini, IsQuiet, is_linked, current_base, StandsIn}
 use Rattle.machine.specs.Kept.{Linkings, link_under}
 use Rattle.machine.specs.Instruments.{Spares, Lets, AllLet, body_of_block}
-use Rattle.machine.specs.Measures.{Level, level, passed, passed_by}
+use Rattle.machine.specs.Measures.{Level, level, level_after, passed_by}
 use Rattle.machine.specs.Replays.{replay, Legal, owns}
 use Rattle.machine.specs.Turns.{fetched, may_turn, turn_by, put_back, ticks_by, turn_alone}
 use Rattle.machine.proofs.Adding.{Wrote, write}
@@ -116,10 +116,10 @@ module _ (i : Placed) (plan : Plan) (families ages : ℕ → ℕ) where
         → ((z : PlacedSite) → In z i.sites → (m : Mine i plan families ages (k.inv).ps z) → (f (m.x).row ≡ Live) × (f (m.b).row ≡ Live)) → Known d s v
     same_blocks f but more d e own = known All NoPiece f but more d e (λ z h m. let o = own z h m in (tt, tt, o.0, o.1)) (λ y n. absurd n) (λ h x y ex q. tt) (λ h x y ex q. (tt, tt))
 
-    writes : (b : Block) → MayWrite c b → Lets i (Write b) → Known (written b c) s v
+    writes : (b : Block) → MayWrite c b → Lets i (Write b) → Known (with_block b c) s v
     writes b m l =
         let w = write c s k.inv b m in
-        known All (λ y. y ≡ w.new) (λ r. r.status) Nowhere NoMore (written b c) w.kept (λ z h m. (tt, tt, m.live, m.entered))
+        known All (λ y. y ≡ w.new) (λ r. r.status) Nowhere NoMore (with_block b c) w.kept (λ z h m. (tt, tt, m.live, m.entered))
         (λ y e z. subst (λ (u : Piece). Spares i u.body) (sym e) (spares w (sym (ap (λ (u : Piece). u.row.base) e) ∙ z) l))
         (λ h x y ex q. tt) (λ h x y ex q. (tt, tt))
       where
@@ -127,22 +127,22 @@ module _ (i : Placed) (plan : Plan) (families ages : ℕ → ℕ) where
         spares w z (inl e) = absurd (true≢false (sym e ∙ (sym w.base ∙ z)))
         spares w z (inr o) = let q = w.words (sym w.base ∙ z) in subst (Spares i) (body_is b (w.new).body (tool q.0) q.1) o
 
-    frees : (p : ℕ) → ((r : Row) → In r c.rows → r.point ≡ p → StandsIn c r → ⊥) → Known (after c (Free p)) s v
+    frees : (p : ℕ) → ((r : Row) → In r c.rows → r.point ≡ p → StandsIn c r → ⊥) → Known (after_event c (Free p)) s v
     frees p m =
-        known (λ x. is_kept p x.row ≡ true) NoPiece (λ r. r.status) Nowhere NoMore (after c (Free p)) (freed c s k.inv p m)
+        known (λ x. is_kept p x.row ≡ true) NoPiece (λ r. r.status) Nowhere NoMore (after_event c (Free p)) (freed c s k.inv p m)
         (λ z h q. (kept_current c s k.inv p m q.x (ap is_current q.live), kept_current c s k.inv p m q.b (ap is_current q.entered), q.live, q.entered))
         (λ y n. absurd n) (λ h x y ex q. holds_base c s k.inv p m h x y ex q) (λ h x y ex q. holds_mini c s k.inv p m h x y ex q)
 
-    links : (p m : ℕ) → MayLinkMini c p m → Known (after c (LinkMini p m)) s v
+    links : (p m : ℕ) → MayLinkMini c p m → Known (after_event c (LinkMini p m)) s v
     links p m o =
         let q = o.mini in
-        same_blocks (at_set m Live) Nowhere (link_under (current_base c.rows p) m) (after c (LinkMini p m))
+        same_blocks (at_set m Live) Nowhere (link_under (current_base c.rows p) m) (after_event c (LinkMini p m))
         (subst (λ b. Kept All NoPiece (at_set m Live) Nowhere (link_under b m) (k.inv).clock (k.inv).ps c (mini_linked b m c) s) (sym o.current) (link_mini c s k.inv p m o.base q.row o.current q.listed q.mini q.point q.at q.is o.next))
         (λ z h n. (live_set m (n.x).row n.live, live_set m (n.b).row n.entered))
 
-    unlinks : (p m : ℕ) → HasMini c p m Live → Lets i (UnlinkMini p m) → Known (after c (UnlinkMini p m)) s v
+    unlinks : (p m : ℕ) → HasMini c p m Live → Lets i (UnlinkMini p m) → Known (after_event c (UnlinkMini p m)) s v
     unlinks p m o l =
-        same_blocks (at_set m Retired) Nowhere NoMore (after c (UnlinkMini p m)) (unlink_mini c s k.inv m o.row o.listed o.mini o.at o.is)
+        same_blocks (at_set m Retired) Nowhere NoMore (after_event c (UnlinkMini p m)) (unlink_mini c s k.inv m o.row o.listed o.mini o.at o.is)
         (λ z h n. (at_miss m Retired (n.x).row (λ e. l (z, h, sym n.at ∙ e)) ∙ n.live, at_miss m Retired (n.b).row (base_not n) ∙ n.entered))
       where
         -- a base block is no mini block
@@ -153,9 +153,9 @@ module _ (i : Placed) (plan : Plan) (families ages : ℕ → ℕ) where
             let same : n.b ≡ d.0 = one_block c.program c.code c.rows i'.ps i'.clock i'.static n.b d.0 (n.base).is_in d.1 (e ∙ (sym o.at ∙ ap (λ (u : Row). u.at) d.2)) in
             true≢false (sym ((n.base).base).base ∙ (ap (λ (u : Piece). u.row.base) same ∙ (sym (ap (λ (u : Row). u.base) d.2) ∙ o.mini)))
 
-    links_point : (p : ℕ) → MayLinkPoint c p → Known (after c (LinkPoint p)) s v
+    links_point : (p : ℕ) → MayLinkPoint c p → Known (after_event c (LinkPoint p)) s v
     links_point p o =
-        same_blocks (at_set (o.base).at Live) (λ a. a ≡ p) NoMore (after c (LinkPoint p))
+        same_blocks (at_set (o.base).at Live) (λ a. a ≡ p) NoMore (after_event c (LinkPoint p))
         (subst (λ b. Kept All NoPiece (at_set (o.base).at Live) (λ a. a ≡ p) NoMore (k.inv).clock (k.inv).ps c (point_linked b p c) s) (sym o.current) (link_point c s k.inv p o.base o.word o.current o.program))
         (λ z h n. (live_set (o.base).at (n.x).row n.live, live_set (o.base).at (n.b).row n.entered))
 
@@ -178,14 +178,14 @@ module _ (i : Placed) (plan : Plan) (families ages : ℕ → ℕ) where
         absurd (⊎_elim (λ (r : BaseReads i plan families ages c.program c.budget (k.inv).ps x y (v h)). true≢false (sym (r.k).inside ∙ q)) (λ (r : MiniReads i plan families ages c.budget (k.inv).ps x y (v h)). true≢false (sym (r.k).inside ∙ q)) o))
         (k.reads h x y ex ey)
 
-    other_arms : (j : Placed) → IsQuiet c → Lets i (Arm j) → Known (after c (Arm j)) s v
+    other_arms : (j : Placed) → IsQuiet c → Lets i (Arm j) → Known (after_event c (Arm j)) s v
     unfolding arms
     other_arms j quiet apart =
         record {
           inv = arms c s j quiet k.inv;
           ready = k.ready;
           reads = λ h x y ex ey.
-              let o = get_map (armed c j) c.harts h x ex in
+              let o = get_map (armed_hart c j) c.harts h x ex in
               let z = o.0 in
               let values = opening j.opens (walk_now c.prog z) j.vars in
               let stand = quiet_reads h z y o.1 ey (quiet h z o.1) in
@@ -200,7 +200,7 @@ module _ (i : Placed) (plan : Plan) (families ages : ℕ → ℕ) where
     level_other : (h j : ℕ) → (j ≡ h → ⊥) → level c.program plan j (h ∷ []) s (v j) ≡ v j
     level_other h j n = cond-false (h == j) (passed_by (slice_get s.harts j) plan (v j)) (v j) (ne_eqb h j (λ e. n (sym e)))
 
-    level_own : (h : ℕ) (y : PlainHart) → slice_get s.harts h ≡ Some y → level c.program plan h (h ∷ []) s (v h) ≡ passed plan y (v h)
+    level_own : (h : ℕ) (y : PlainHart) → slice_get s.harts h ≡ Some y → level c.program plan h (h ∷ []) s (v h) ≡ level_after plan y (v h)
     level_own h y e = cond-true (h == h) (passed_by (slice_get s.harts h) plan (v h)) (v h) (eq-eqb h h refl) ∙ ap (λ o. passed_by o plan (v h)) e
 
     -- the hart of the turn, and the others
@@ -229,7 +229,7 @@ module _ (i : Placed) (plan : Plan) (families ages : ℕ → ℕ) where
           let i' = k.inv in
           let d : Dynamic c.program c.budget i'.ps z.hart a.hart = subst (λ q. Dynamic c.program c.budget i'.ps z.hart (plain.turn_alone c.program h (record { hart = y; prog = q })).hart) i'.prog (o.1).0 in
           let p : z.prog ≡ a.prog = o.2 ∙ ap (λ q. (plain.turn_alone c.program h (record { hart = y; prog = q })).prog) i'.prog in
-          let t : Reads i plan families ages c.program c.budget i'.ps z.hart a.hart (passed plan y (v h)) = subst (λ q. Reads i plan families ages c.program c.budget i'.ps z.hart (plain.turn_alone c.program h (record { hart = y; prog = q })).hart (passed plan y (v h))) i'.prog r in
+          let t : Reads i plan families ages c.program c.budget i'.ps z.hart a.hart (level_after plan y (v h)) = subst (λ q. Reads i plan families ages c.program c.budget i'.ps z.hart (plain.turn_alone c.program h (record { hart = y; prog = q })).hart (level_after plan y (v h))) i'.prog r in
           let is : Known (put_back c h z) (plain.put_back s h a) (λ j. level c.program plan j (h ∷ []) s (v j)) =
           record {
             inv = puts c s (plain.put_back s h a) h x a.hart z i' ex (get_set_same s.harts h y a.hart ey) (λ j n. get_set_other s.harts h j a.hart n) (length_slice_set s.harts h a.hart) d p;
@@ -259,7 +259,7 @@ module _ (i : Placed) (plan : Plan) (families ages : ℕ → ℕ) where
 
   -- one event
   step : (c : Core) (s : Plain) (v : ℕ → Level) (e : Event) → c.budget < 2 ^ 64 → Known c s v → May c e → Lets i e
-      → Known (after c e) (run_from c.program (owned c e) s) (λ j. level c.program plan j (owned c e) s (v j))
+      → Known (after_event c e) (run_from c.program (owned c e) s) (λ j. level c.program plan j (owned c e) s (v j))
   step c s v (Turn h) cap k m l = turns_of c s v k cap h (slice_get c.harts h) refl m
   step c s v (Write b) cap k m l = writes c s v k b m l
   step c s v (LinkMini p m) cap k o l = links c s v k p m o
@@ -276,8 +276,8 @@ module _ (i : Placed) (plan : Plan) (families ages : ℕ → ℕ) where
   all_since [] t c s v et cap k l q = k
   all_since (e ∷ es) t c s v et cap k l q =
       let f = fixed c e in
-      let a : Known (after c e) (run_from t (owned c e) s) (λ j. level t plan j (owned c e) s (v j)) = subst (λ u. Known (after c e) (run_from u (owned c e) s) (λ j. level u plan j (owned c e) s (v j))) et (step c s v e cap k l.0 q.0) in
-      let r = all_since es t (after c e) (run_from t (owned c e) s) (λ j. level t plan j (owned c e) s (v j)) (f.0 ∙ et) (subst (λ b. b < 2 ^ 64) (sym f.1) cap) a l.1 q.1 in
-      subst (λ u. Known (replay es (after c e)) u (λ j. level t plan j (owned c e ++ owns es (after c e)) s (v j))) (sym (run_from-append t (owned c e) (owns es (after c e)) s))
-      (known_as (replay es (after c e)) (run_from t (owns es (after c e)) (run_from t (owned c e) s)) (λ j. level t plan j (owns es (after c e)) (run_from t (owned c e) s) (level t plan j (owned c e) s (v j))) (λ j. level t plan j (owned c e ++ owns es (after c e)) s (v j))
-      (λ j. sym (level-append t plan j (owned c e) (owns es (after c e)) s (v j))) r)
+      let a : Known (after_event c e) (run_from t (owned c e) s) (λ j. level t plan j (owned c e) s (v j)) = subst (λ u. Known (after_event c e) (run_from u (owned c e) s) (λ j. level u plan j (owned c e) s (v j))) et (step c s v e cap k l.0 q.0) in
+      let r = all_since es t (after_event c e) (run_from t (owned c e) s) (λ j. level t plan j (owned c e) s (v j)) (f.0 ∙ et) (subst (λ b. b < 2 ^ 64) (sym f.1) cap) a l.1 q.1 in
+      subst (λ u. Known (replay es (after_event c e)) u (λ j. level t plan j (owned c e ++ owns es (after_event c e)) s (v j))) (sym (run_from-append t (owned c e) (owns es (after_event c e)) s))
+      (known_as (replay es (after_event c e)) (run_from t (owns es (after_event c e)) (run_from t (owned c e) s)) (λ j. level t plan j (owns es (after_event c e)) (run_from t (owned c e) s) (level t plan j (owned c e) s (v j))) (λ j. level t plan j (owned c e ++ owns es (after_event c e)) s (v j))
+      (λ j. sym (level-append t plan j (owned c e) (owns es (after_event c e)) s (v j))) r)

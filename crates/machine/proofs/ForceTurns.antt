@@ -8,7 +8,7 @@ use Rattle.pn_types.specs.declared.placed.Placed.{Placed}
 use Rattle.pn_types.specs.declared.placed.PlacedSite.{PlacedSite}
 use Rattle.pn_types.specs.declared.plan.Plan.{Plan}
 use Rattle.rv_word.specs.Registers.{reg}
-use Rattle.rv_word.specs.Exec.{Prog, done, exec_of, next}
+use Rattle.rv_word.specs.Exec.{Prog, done_of_outcome, exec_of, next}
 use Rattle.rv_word.specs.Plain.{Words, PlainHart, program_word, after_done}
 use Rattle.rv_word.specs.Plain as plain
 use Rattle.rv_word.specs.declared.outcome.Next.{Next}
@@ -28,7 +28,7 @@ use Rattle.tramp_spec.specs.declared.mark.MarkedWord.{MarkedWord}
 use Rattle.tramp_spec.proofs.Hops.{Hops}
 use Rattle.prim_code.specs.Standing.{SameSlots}
 use Rattle.machine.specs.Cores.{In, Row, Written, Live, is_current, is_live}
-use Rattle.machine.specs.Measures.{Level, site_at, passed}
+use Rattle.machine.specs.Measures.{Level, site_at, level_after}
 use Rattle.machine.specs.Places.{program_pc}
 use Rattle.machine.specs.Turns.{fetched}
 use Rattle.machine.proofs.Force.{acted, finish_end, finish_leap, end_of, Ready, Way, Ahead, BaseTells, Reads}
@@ -49,7 +49,7 @@ own_keeps (Stop cause) regs w home x = (refl, refl)
 
 marked_keeps : (m : Mark) (w h home : ℕ) (s : Solo) → is_own m ≡ true → ((marked_step m w h home s).hart.bank ≡ s.hart.bank) × ((marked_step m w h home s).hart.ticks ≡ s.hart.ticks + 1)
 marked_keeps Own w h home s e =
-    let d = done (exec_of w s.hart.pc h s.hart.regs s.prog) s.hart.regs in
+    let d = done_of_outcome (exec_of w s.hart.pc h s.hart.regs s.prog) s.hart.regs in
     let k = own_keeps d.next d.regs w home s.hart in (k.0, ap (λ n. n + 1) k.1)
 marked_keeps Enter w h home s e = absurd (true≢false (sym e))
 marked_keeps Tool w h home s e = absurd (true≢false (sym e))
@@ -66,7 +66,7 @@ own_outside (Stop cause) regs w home x e = refl
 
 -- what a turn owes
 abbrev pub OwesBy : Placed → Plan → (families ages : ℕ → ℕ) → Words → ℕ → List Piece → ℕ → PlainHart → Prog → Level → Bool → Solo → Type 0
-OwesBy i plan families ages t budget ps h y p v true z = Reads i plan families ages t budget ps z.hart (plain.turn_alone t h (record { hart = y; prog = p })).hart (passed plan y v)
+OwesBy i plan families ages t budget ps h y p v true z = Reads i plan families ages t budget ps z.hart (plain.turn_alone t h (record { hart = y; prog = p })).hart (level_after plan y v)
 OwesBy i plan families ages t budget ps h y p v false z = Reads i plan families ages t budget ps z.hart y v
 
 module _ (i : Placed) (plan : Plan) (families ages : ℕ → ℕ) (t : Words) (g : Ground t) (budget : ℕ) (cap : budget < 2 ^ 64) (code : Code) (rows : List Row) (ps : List Piece) (clock : ℕ) (st : Static t code rows ps clock) (rd : Ready i plan families ages ps)
@@ -86,7 +86,7 @@ module _ (i : Placed) (plan : Plan) (families ages : ℕ → ℕ) (t : Words) (g
   abbrev Behind : Hart → PlainHart → Type 0
   Behind z u = (z.inside ≡ false) ⊎ ((b : Piece) × In b ps × IsBase b × (b.row.status ≡ Written → ⊥) × (z.inside ≡ true) × AtLeave t b z u)
 
-  reads_behind : (z : Hart) (u : PlainHart) → Behind z u → Stand i budget (passed plan y v) z.bank z.ticks → Reads i plan families ages t budget ps z u (passed plan y v)
+  reads_behind : (z : Hart) (u : PlainHart) → Behind z u → Stand i budget (level_after plan y v) z.bank z.ticks → Reads i plan families ages t budget ps z u (level_after plan y v)
   reads_behind z u (inl e) k = inl (e, k)
   reads_behind z u (inr r) k = inr (inl (record { k = record { b = r.0; is_in = r.1; base = r.2; was = r.3; inside = r.4; place = inr (inr (inr (inr r.5))) }; told = k }))
 
@@ -95,8 +95,8 @@ module _ (i : Placed) (plan : Plan) (families ages : ℕ → ℕ) (t : Words) (g
   ticks o e tick k b =
       let z = (step_of o h (program_pc code rows x) (record { hart = x; prog = p })).hart in
       let s = tick_keeps o h (program_pc code rows x) (record { hart = x; prog = p }) tick in
-      let on : Stand i budget (passed plan y v) x.bank (x.ticks + 1) = ticks_on i budget (acted plan y v) x.bank x.ticks k in
-      let stand : Stand i budget (passed plan y v) z.bank z.ticks = subst (λ n. Stand i budget (passed plan y v) n z.ticks) (sym s.0) (subst (Stand i budget (passed plan y v) x.bank) (sym s.1) on) in
+      let on : Stand i budget (level_after plan y v) x.bank (x.ticks + 1) = ticks_on i budget (acted plan y v) x.bank x.ticks k in
+      let stand : Stand i budget (level_after plan y v) z.bank z.ticks = subst (λ n. Stand i budget (level_after plan y v) n z.ticks) (sym s.0) (subst (Stand i budget (level_after plan y v) x.bank) (sym s.1) on) in
       owes o e (subst (λ c. OwesBy i plan families ages t budget ps h y p v c (step_of o h (program_pc code rows x) (record { hart = x; prog = p }))) (sym tick) (reads_behind z _ b stand))
 
   -- ---- outside
@@ -130,7 +130,7 @@ module _ (i : Placed) (plan : Plan) (families ages : ℕ → ℕ) (t : Words) (g
       near : (w : ℕ) × (program_word t x.pc ≡ Some w) × (is_text_word t x.pc ≡ true) → Owes (fetched t code x)
       near r = ⊎_elim
           (λ (e : get code x.pc ≡ Some (own r.0)).
-          let n = done (exec_of r.0 x.pc h x.regs p) x.regs in
+          let n = done_of_outcome (exec_of r.0 x.pc h x.regs p) x.regs in
           ticks (Some (own r.0)) (fetch_text t g budget code rows ps clock st h x y p d on (Some (own r.0)) o.outside r.2 e) refl
           (rest (own_word r.0 (ap (get code) (sym o.pc) ∙ e)) k) (inl (own_outside n.next n.regs r.0 (program_pc code rows x) x o.outside)))
           (λ (e : (b : Piece) × In b ps × IsBase b × (b.row.point ≡ x.pc) × (b.row.status ≡ Live) × Door code b).
@@ -239,7 +239,7 @@ module _ (i : Placed) (plan : Plan) (families ages : ℕ → ℕ) (t : Words) (g
       let w = s.0 in
       let by = nexts.tick_place t g budget code rows ps clock st h x y p d on b ins k.m w (is_jump (k.m).word) (exec_of w x.pc h x.regs p) (exec_of (k.m).word y.pc h y.regs p) s.3 s.5 in
       ticks (Some (own w)) s.1 refl a
-      (subst (λ o. Behind (own_step (done (exec_of w x.pc h x.regs p) x.regs) w (program_pc code rows x) x).hart (after_done (done (plain.fetched o h y p) y.regs) y).hart) (sym s.4)
+      (subst (λ o. Behind (own_step (done_of_outcome (exec_of w x.pc h x.regs p) x.regs) w (program_pc code rows x) x).hart (after_done (done_of_outcome (plain.fetched o h y p) y.regs) y).hart) (sym s.4)
       (⊎_elim (λ z. inl z) (λ z. inr (b, hb, bs, was, z.0, z.1)) by))
 
   leave : (b : Piece) → In b ps → IsBase b → x.inside ≡ true → AtLeave t b x y → Stand i budget v x.bank x.ticks → Owes (fetched t code x)

@@ -1,7 +1,7 @@
 -- What a hart that stops as illegal leaves of what all harts share: all of it.
 use Rattle.std.proofs.Common.{◌≡◌, ℕ, List, Option, Some, None, refl}
 use Rattle.std.specs.Prelude.{◌/◌, ◌%◌, ◌==◌, ◌||◌, min, Bool, true, false, cond, Result, Ok, Err}
-use Rattle.rv_word.specs.Exec.{Prog, Outcome, Stops, Goes, or_stop, next, jump_to, atomic, conditional, has, without_reservation, written, written_is, system_call, perform, asked, exec_decoded}
+use Rattle.rv_word.specs.Exec.{Prog, Outcome, Stops, Goes, or_stop, next, jump_to, atomic, conditional, has, without_reservation, outcome_of_write, written_is, system_call, perform, asked, exec_decoded}
 use Rattle.rv_word.specs.Memory.{load, store, bytes_at}
 use Rattle.rv_word.specs.Registers.{reg, with_reg}
 use Rattle.rv_word.specs.Values.{load_len, atomic_len, left_by}
@@ -37,7 +37,7 @@ conditional_keeps : (t : Bool) (h n rd at v pc : ℕ) (regs : List ℕ) (p q : P
 conditional_keeps false h n rd at v pc regs p q = tt
 conditional_keeps true h n rd at v pc regs p q = memory_keeps (store n q.mem at v) p q _ (λ m. tt)
 
-write_keeps : (r : Result ℕ ℕ) (out : List ℕ) (pc : ℕ) (regs : List ℕ) (p : Prog) → KeepsIfIllegal p (written (r, out) pc regs p)
+write_keeps : (r : Result ℕ ℕ) (out : List ℕ) (pc : ℕ) (regs : List ℕ) (p : Prog) → KeepsIfIllegal p (outcome_of_write (r, out) pc regs p)
 write_keeps (Ok answer) out pc regs p = tt
 write_keeps (Err a) out pc regs p = λ e. refl
 

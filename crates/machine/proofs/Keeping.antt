@@ -13,7 +13,7 @@ use Rattle.tramp_spec.specs.MovedWords.{own_place}
 use Rattle.tramp_spec.proofs.Hops.{Hops}
 use Rattle.machine.specs.Cores.{In, Row, Live, Core, is_live, is_current, start_core}
 use Rattle.machine.specs.Events.{Apart, next_of}
-use Rattle.machine.specs.Kept.{IsJump, IsBaseBlock, IsMiniBlock, IsBlock, WasLinked, IsOpen, Linkings, linkings, no_linkings, IsUnder, Way, AreOlder, LeadsDown, HasBase, IsBeforeTick, IsInside, IsKept, Keeps}
+use Rattle.machine.specs.Kept.{IsJump, IsBaseBlock, IsMiniBlock, IsBlock, WasLinked, IsOpen, Linkings, linkings, no_linkings, IsUnder, Way, AreOlder, LeadsDown, HasBase, IsBeforeTick, IsInside, IsInvariant, KeepsAlways}
 use Rattle.machine.specs.Replays.{replay, owns}
 use Rattle.machine.proofs.Beginning.{begins, begins_numbers}
 use Rattle.machine.proofs.Homes.{piece_of, row_in, base_shape, block_is}
@@ -240,7 +240,7 @@ module _ (l : Linkings) (c : Core) (s : Plain) (v : Inv c s) (told : Numbers l v
       let o2 : LeadsDown l c (p.0).row.at (l.count + 1) (next_of c.code (p.0).row) (is_current (p.0).row.status) = subst (λ q. LeadsDown l c (p.0).row.at (l.count + 1) q (is_current (p.0).row.status)) (sym (next p.0 p.1)) o1 in
       subst (λ (r : Row). LeadsDown l c r.at (l.count + 1) (next_of c.code r) (is_current r.status)) (sym p.2) o2
 
-  pub kept : IsKept l c
+  pub kept : IsInvariant l c
   kept =
       record {
         blocks = λ r h. let p = listed r h in subst (IsBlock c) (sym p.2) (is_block p.0 p.1);
@@ -282,7 +282,7 @@ module _ (l : Linkings) (c : Core) (s : Plain) (v : Inv c s) (told : Numbers l v
         harts = inside;
       }
 
-pub keeps : Keeps
+pub keeps : KeepsAlways
 keeps image n budget es p k =
     let c = start_core image n budget in
     let first : Counted no_linkings c (start image n) = record { inv = begins image n budget p; numbers = begins_numbers image n budget p } in

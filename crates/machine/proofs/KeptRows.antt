@@ -7,7 +7,7 @@ use Rattle.tramp_spec.specs.Blocks.{tail_of}
 use Rattle.tramp_spec.specs.Codes.{tool_at}
 use Rattle.machine.specs.Cores.{In, Row, Written, Live, Core, is_live, start_core}
 use Rattle.machine.specs.Events.{is_linked, is_before, before, link_at, next_of}
-use Rattle.machine.specs.Kept.{WasLinked, Linkings, linkings, no_linkings, Way, IsKept}
+use Rattle.machine.specs.Kept.{WasLinked, Linkings, linkings, no_linkings, Way, IsInvariant}
 use Rattle.machine.specs.Reached.{IsReached}
 use Rattle.machine.proofs.Beginning.{ground}
 use Rattle.machine.proofs.Effects.{program_stays}
@@ -19,8 +19,8 @@ use Rattle.machine.proofs.Lists.{find_gives, find_finds}
 abbrev pub linkings_to : (c : Core) → IsReached c → Linkings
 linkings_to c r = linkings r.events (start_core r.image r.many c.budget) no_linkings
 
-pub kept_there : (c : Core) (r : IsReached c) → IsKept (linkings_to c r) c
-kept_there c r = subst (IsKept (linkings_to c r)) (sym r.is) (keeps r.image r.many c.budget r.events r.program r.legal)
+pub kept_there : (c : Core) (r : IsReached c) → IsInvariant (linkings_to c r) c
+kept_there c r = subst (IsInvariant (linkings_to c r)) (sym r.is) (keeps r.image r.many c.budget r.events r.program r.legal)
 
 -- the tool text begins at the heap's first address at the latest
 pub tool_high : (c : Core) (r : IsReached c) → tool_at c.program ≤ 0x60000000
@@ -39,7 +39,7 @@ was_linked r live e = let z : Live ≡ Written = sym live ∙ e in absurd cc
 pub live_leads : (r : Row) → r.base ≡ false → r.status ≡ Live → is_linked r ≡ true
 live_leads r mini live = cond-false r.base _ _ mini ∙ ap is_live live
 
-module _ (l : Linkings) (c : Core) (k : IsKept l c) where
+module _ (l : Linkings) (c : Core) (k : IsInvariant l c) where
   pub has_len : (r : Row) → In r c.rows → 0 < r.len
   has_len r h = ⊎_elim
       (λ (e : r.base ≡ true). let n = ((k.blocks r h).base e).len in omega arith)

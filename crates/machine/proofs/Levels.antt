@@ -5,7 +5,7 @@ use Rattle.pn_types.specs.declared.plan.Plan.{Plan}
 use Rattle.rv_word.specs.Plain.{Words, Plain, plain}
 use Rattle.rv_exec.specs.Run.{run_from}
 use Rattle.rv_exec.proofs.Runs.{run_from-append}
-use Rattle.machine.specs.Measures.{Level, passed_by, level, opened, LevelsGoOn}
+use Rattle.machine.specs.Measures.{Level, passed_by, level, opening_level, LevelsGoOn}
 
 pub level-append : (t : Words) (plan : Plan) (h : ℕ) (a b : List ℕ) (s : Plain) (v : Level) → level t plan h (a ++ b) s v ≡ level t plan h b (run_from t a s) (level t plan h a s v)
 level-append t plan h [] b s v = refl
@@ -28,7 +28,7 @@ take_split a b xs h = split_drop zero a b xs (omega arith) h
 pub levels_go_on : LevelsGoOn
 levels_go_on t plan h a b c turns s p q =
     let s0 = run_from t (take a turns) s in
-    let v0 = opened plan s0 h in
+    let v0 = opening_level plan s0 h in
     ap (λ z. level t plan h z s0 v0) (split_drop a b c turns p q)
     ∙ (level-append t plan h (drop a (take b turns)) (drop b (take c turns)) s0 v0
     ∙ ap (λ z. level t plan h (drop b (take c turns)) z (level t plan h (drop a (take b turns)) s0 v0))

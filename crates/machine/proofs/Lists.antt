@@ -8,7 +8,7 @@ use Rattle.std.specs.FinMap.{get, insert, get-insert}
 use Rattle.tramp_spec.specs.Codes.{Code, put_words}
 use Rattle.tramp_spec.specs.declared.mark.MarkedWord.{MarkedWord}
 use Rattle.machine.specs.Cores.{In}
-pub use Rattle.machine.specs.Kept.{Stands}
+pub use Rattle.machine.specs.Kept.{AreWordsAt}
 
 pub in_map : {A B : Type 0} (f : A → B) (xs : List A) (y : B) → In y (map f xs) → (x : A) × In x xs × (y ≡ f x)
 in_map f [] y h = absurd h
@@ -95,7 +95,7 @@ get_same code a w = get-insert nat_cmp_total code a w a ∙ ap (λ b. cond b (So
 pub get_other : (code : Code) (a q : ℕ) (w : MarkedWord) → (q ≡ a → ⊥) → get (insert code a w) q ≡ get code q
 get_other code a q w n = get-insert nat_cmp_total code a w q ∙ ap (λ b. cond b (Some w) (get code q)) (unsigned_tied q a ∙ ne_eqb q a n)
 
-pub stands_other : (code : Code) (a : ℕ) (v : MarkedWord) (at : ℕ) (ws : List MarkedWord) → (a < at) ⊎ (at + 4 * length ws ≤ a) → Stands code at ws → Stands (insert code a v) at ws
+pub stands_other : (code : Code) (a : ℕ) (v : MarkedWord) (at : ℕ) (ws : List MarkedWord) → (a < at) ⊎ (at + 4 * length ws ≤ a) → AreWordsAt code at ws → AreWordsAt (insert code a v) at ws
 stands_other code a v at [] o h = tt
 stands_other code a v at (w ∷ ws) o h =
     let apart : at ≡ a → ⊥ = λ e. ⊎_elim (λ l. omega arith) (λ l. omega arith) o in
@@ -109,18 +109,18 @@ put_words_other at (w ∷ ws) code q o =
     let on : (q < at + 4) ⊎ (at + 4 + 4 * length ws ≤ q) = ⊎_elim (λ l. inl (omega arith)) (λ l. inr (omega arith)) o in
     put_words_other (at + 4) ws (insert code at w) q on ∙ get_other code at q w apart
 
-pub put_words_stand : (at : ℕ) (ws : List MarkedWord) (code : Code) → Stands (put_words at ws code) at ws
+pub put_words_stand : (at : ℕ) (ws : List MarkedWord) (code : Code) → AreWordsAt (put_words at ws code) at ws
 put_words_stand at [] code = tt
 put_words_stand at (w ∷ ws) code = (put_words_other (at + 4) ws (insert code at w) at (inl (omega arith)) ∙ get_same code at w, put_words_stand (at + 4) ws (insert code at w))
 
-pub stands_put : (at : ℕ) (ws : List MarkedWord) (code : Code) (b : ℕ) (vs : List MarkedWord) → (b + 4 * length vs ≤ at) ⊎ (at + 4 * length ws ≤ b) → Stands code b vs → Stands (put_words at ws code) b vs
+pub stands_put : (at : ℕ) (ws : List MarkedWord) (code : Code) (b : ℕ) (vs : List MarkedWord) → (b + 4 * length vs ≤ at) ⊎ (at + 4 * length ws ≤ b) → AreWordsAt code b vs → AreWordsAt (put_words at ws code) b vs
 stands_put at ws code b [] o h = tt
 stands_put at ws code b (v ∷ vs) o h =
     let away : (b < at) ⊎ (at + 4 * length ws ≤ b) = ⊎_elim (λ l. inl (omega arith)) (λ l. inr (omega arith)) o in
     let on : (b + 4 + 4 * length vs ≤ at) ⊎ (at + 4 * length ws ≤ b + 4) = ⊎_elim (λ l. inl (omega arith)) (λ l. inr (omega arith)) o in
     (put_words_other at ws code b away ∙ h.0, stands_put at ws code (b + 4) vs on h.1)
 
-pub stands_at : (code : Code) (at : ℕ) (ws : List MarkedWord) (i : ℕ) (w : MarkedWord) → Stands code at ws → slice_get ws i ≡ Some w → get code (at + 4 * i) ≡ Some w
+pub stands_at : (code : Code) (at : ℕ) (ws : List MarkedWord) (i : ℕ) (w : MarkedWord) → AreWordsAt code at ws → slice_get ws i ≡ Some w → get code (at + 4 * i) ≡ Some w
 stands_at code at [] i w h e = absurd cc
 stands_at code at (v ∷ ws) zero w h e = let z : at + 4 * 0 ≡ at = omega arith in ap (λ a. get code a) z ∙ (h.0 ∙ e)
 stands_at code at (v ∷ ws) (suc i) w h e = let z : at + 4 * suc i ≡ at + 4 + 4 * i = omega arith in ap (λ a. get code a) z ∙ stands_at code (at + 4) ws i w h.1 e

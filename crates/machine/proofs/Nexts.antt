@@ -8,7 +8,7 @@ use Rattle.rv_word.specs.Names.{jump_of}
 use Rattle.rv_word.specs.Registers.{reg, with_reg}
 use Rattle.rv_word.specs.Table.{decode_of}
 use Rattle.rv_word.specs.Words.{word_of}
-use Rattle.rv_word.specs.Exec.{Prog, Outcome, Stops, Goes, done, exec_of, next}
+use Rattle.rv_word.specs.Exec.{Prog, Outcome, Stops, Goes, done_of_outcome, exec_of, next}
 use Rattle.rv_word.specs.Plain.{Words, PlainHart, program_word, after_done, hart_after}
 use Rattle.rv_word.specs.Plain as plain
 use Rattle.rv_word.specs.declared.outcome.Next.TheVariants.{Go}
@@ -198,8 +198,8 @@ module _ (t : Words) (g : Ground t) (budget : ℕ) (code : Code) (rows : List Ro
 
   -- after a tick the hart is outside, or there
   pub tick_place : (b : Piece) → x.inside ≡ true → (m : MovedWord t b) (w : ℕ) (jumped : Bool) (o u : Outcome) → is_jump w ≡ jumped → SameStep jumped (own_place m.word) (moved_at b.row.at) m.moved o u
-      → ((own_step (done o x.regs) w (program_pc code rows x) x).hart.inside ≡ false)
-      ⊎ (((own_step (done o x.regs) w (program_pc code rows x) x).hart.inside ≡ true) × AtLeave t b (own_step (done o x.regs) w (program_pc code rows x) x).hart (after_done (done u y.regs) y).hart)
+      → ((own_step (done_of_outcome o x.regs) w (program_pc code rows x) x).hart.inside ≡ false)
+      ⊎ (((own_step (done_of_outcome o x.regs) w (program_pc code rows x) x).hart.inside ≡ true) × AtLeave t b (own_step (done_of_outcome o x.regs) w (program_pc code rows x) x).hart (after_done (done_of_outcome u y.regs) y).hart)
   tick_place b i m w jumped (Stops c q) u tj s = inl refl
   tick_place b i m w jumped (Goes pc a q) (Stops c r) tj s = absurd s
   tick_place b i m w jumped (Goes pc a q) (Goes qc e r) tj s = ⊎_elim

@@ -23,7 +23,7 @@ use Rattle.frame_walk.proofs.Starts.{same_starts}
 use Rattle.frame_walk.proofs.Waits.{cold_begins}
 use Rattle.prim_code.specs.Fitting.{IsActOf, AreStmtsOf, IsMeasurable}
 use Rattle.machine.specs.Cores.{Core}
-use Rattle.machine.specs.Effects.{armed}
+use Rattle.machine.specs.Effects.{armed_hart}
 use Rattle.machine.specs.Instruments.{Carries}
 use Rattle.machine.proofs.Invariant.{Piece, Outside, InBase, InMini, Dynamic, Inv}
 
@@ -74,6 +74,6 @@ same_opening c s v i plan k h x y ex ey quiet =
     ∙ (ap (walk_from s.prog.mem) (same_start c.program c.budget v.ps x y quiet (v.harts h x y ex ey)) ∙ ap (λ o. walk_from s.prog.mem (start_at o)) (sym ey))))
 
 -- without Opens the slots are set to what the variables are initially
-pub armed_cold : (c : Core) (i : Placed) (x : Hart) → i.opens ≡ [] → armed c i x ≡ record x { bank = set_places (places_of i) (initials i.vars) x.ticks x.bank }
+pub armed_cold : (c : Core) (i : Placed) (x : Hart) → i.opens ≡ [] → armed_hart c i x ≡ record x { bank = set_places (places_of i) (initials i.vars) x.ticks x.bank }
 armed_cold c i x e =
     ap (λ values. record x { bank = set_places (places_of i) values x.ticks x.bank }) (ap (λ (os : List Open). opening os (walk_now c.prog x) i.vars) e ∙ cold_begins (walk_now c.prog x) i.vars)

@@ -8,7 +8,7 @@ use Rattle.rv_word.specs.Plain.{program_word}
 use Rattle.tramp_spec.specs.Codes.{tool_at}
 use Rattle.tramp_spec.specs.Harts.{Hart}
 use Rattle.machine.specs.Cores.{In, Row, Status, Core, start_core}
-use Rattle.machine.specs.Effects.{after, with_status, row_of, mini_linked, mini_unlinked, point_linked, point_unlinked, is_kept}
+use Rattle.machine.specs.Effects.{after_event, with_status, row_of, mini_linked, mini_unlinked, point_linked, point_unlinked, is_kept}
 use Rattle.machine.specs.Events.{Event, Turn, Write, LinkMini, UnlinkMini, LinkPoint, UnlinkPoint, Free, Arm, Sample, May, Apart, current_base, row_at, before}
 use Rattle.machine.specs.Reached.{IsReached}
 use Rattle.machine.specs.Replays.{replay, Legal}
@@ -64,7 +64,7 @@ apart_own : (o : Option ℕ) (p : ℕ) (c : Core) → AllApart c.rows → AllApa
 apart_own None p c a = a
 apart_own (Some w) p c a = apart_map _ c.rows a
 
-apart_after : (c : Core) (e : Event) → May c e → AllApart c.rows → AllApart (after c e).rows
+apart_after : (c : Core) (e : Event) → May c e → AllApart c.rows → AllApart (after_event c e).rows
 apart_after c (Turn h) m a = apart_turn _ c h a
 apart_after c (Write b) m a = apart_snoc c.rows (row_of b) a m.apart
 apart_after c (LinkMini p at) m a = apart_link (current_base c.rows p) at c a
@@ -77,7 +77,7 @@ apart_after c (Sample i) m a = a
 
 apart_replay : (es : List Event) (c : Core) → Legal es c → AllApart c.rows → AllApart (replay es c).rows
 apart_replay [] c l a = a
-apart_replay (e ∷ es) c l a = apart_replay es (after c e) l.1 (apart_after c e l.0 a)
+apart_replay (e ∷ es) c l a = apart_replay es (after_event c e) l.1 (apart_after c e l.0 a)
 
 pub all_apart : (c : Core) → IsReached c → AllApart c.rows
 all_apart c r = subst (λ (d : Core). AllApart d.rows) (sym r.is) (apart_replay r.events (start_core r.image r.many c.budget) r.legal tt)

@@ -1,7 +1,7 @@
 -- What the operations of slots leave.
 use Rattle.std.proofs.Common.{◌≡◌, ℕ, ◌<◌, List, Option, Some, None, refl, sym, ap, ◌∙◌, subst, ⊎_elim, inl, inr}
 use Rattle.std.specs.Prelude.{◌⊎◌, IfSome}
-use Rattle.rv_word.specs.Exec.{Prog, Outcome, Stops, Goes, Done, done, exec_decoded, exec_of}
+use Rattle.rv_word.specs.Exec.{Prog, Outcome, Stops, Goes, Done, done_of_outcome, exec_decoded, exec_of}
 use Rattle.rv_word.specs.Table.{decode_of}
 use Rattle.rv_word.specs.Words.{HasWord}
 use Rattle.rv_word.specs.declared.instr.Instr.{Instr}
@@ -58,7 +58,7 @@ access_fits w rs1 offset o = access_fits_by w.mark (decode_of w.word) rs1 offset
 
 -- ---- a word that does what it does in the program
 
-left_at_stop : (o : Outcome) (regs : List ℕ) (stop : Option Cause) (pc : ℕ) (new_regs : List ℕ) (new_p : Prog) → done o regs ≡ record { next = next_after stop pc; regs = new_regs; prog = new_p } → (stop ≡ None) ⊎ (new_regs ≡ regs)
+left_at_stop : (o : Outcome) (regs : List ℕ) (stop : Option Cause) (pc : ℕ) (new_regs : List ℕ) (new_p : Prog) → done_of_outcome o regs ≡ record { next = next_after stop pc; regs = new_regs; prog = new_p } → (stop ≡ None) ⊎ (new_regs ≡ regs)
 left_at_stop (Stops cause q) regs stop pc new_regs new_p e = inr (sym (ap (λ (d : Done). d.regs) e))
 left_at_stop (Goes at others q) regs None pc new_regs new_p e = inl refl
 left_at_stop (Goes at others q) regs (Some cause) pc new_regs new_p e = let no = ap (λ (d : Done). d.next) e in absurd cc
@@ -68,7 +68,7 @@ stood_is None pc regs bank = refl
 stood_is (Some cause) pc regs bank = refl
 
 runs_other : (n word : ℕ) (flat : Flat) (h : ℕ) (x z : Solo) → Does n (decode_of word) (Run flat) → z.hart.bank ≡ x.hart.bank
-    → done (exec_of word x.hart.pc h x.hart.regs x.prog) x.hart.regs ≡ record { next = next_after z.hart.stop z.hart.pc; regs = z.hart.regs; prog = z.prog }
+    → done_of_outcome (exec_of word x.hart.pc h x.hart.regs x.prog) x.hart.regs ≡ record { next = next_after z.hart.stop z.hart.pc; regs = z.hart.regs; prog = z.prog }
     → PerformsOther n word x z
 runs_other n word flat h x z o same e =
     record {
@@ -80,7 +80,7 @@ runs_other n word flat h x z o same e =
     }
 
 runs_by : (m : Mark) (word : ℕ) (flat : Flat) (h : ℕ) (x z : Solo) → IsOperationBy m (decode_of word) (Run flat) → z.hart.bank ≡ x.hart.bank
-    → done (exec_of word x.hart.pc h x.hart.regs x.prog) x.hart.regs ≡ record { next = next_after z.hart.stop z.hart.pc; regs = z.hart.regs; prog = z.prog }
+    → done_of_outcome (exec_of word x.hart.pc h x.hart.regs x.prog) x.hart.regs ≡ record { next = next_after z.hart.stop z.hart.pc; regs = z.hart.regs; prog = z.prog }
     → PerformsBy m word h x z
 runs_by Own word flat h x z o same e = record { does = e; keeps = same }
 runs_by Enter word flat h x z o same e = runs_other 0 word flat h x z o same e
@@ -88,8 +88,8 @@ runs_by Tool word flat h x z o same e = runs_other bank_len word flat h x z o sa
 runs_by Leave word flat h x z o same e = runs_other 0 word flat h x z o same e
 
 pub runs : (w : MarkedWord) (flat : Flat) (h : ℕ) (x z : Solo) → IsOperationOf w (Run flat) → z.hart.bank ≡ x.hart.bank
-    → done (exec_decoded (instr_of flat) x.hart.pc h x.hart.regs x.prog) x.hart.regs ≡ record { next = next_after z.hart.stop z.hart.pc; regs = z.hart.regs; prog = z.prog }
+    → done_of_outcome (exec_decoded (instr_of flat) x.hart.pc h x.hart.regs x.prog) x.hart.regs ≡ record { next = next_after z.hart.stop z.hart.pc; regs = z.hart.regs; prog = z.prog }
     → Performs w h x z
 runs w flat h x z o same e =
     let i = (run_fits_by w.mark (decode_of w.word) flat o).0 in
-    runs_by w.mark w.word flat h x z o same (ap (λ j. done (exec_decoded j x.hart.pc h x.hart.regs x.prog) x.hart.regs) (sym i) ∙ e)
+    runs_by w.mark w.word flat h x z o same (ap (λ j. done_of_outcome (exec_decoded j x.hart.pc h x.hart.regs x.prog) x.hart.regs) (sym i) ∙ e)

@@ -4,7 +4,7 @@ use Rattle.std.specs.Prelude.{Bool, true, false, cond, IsTrue, Result, Ok, Err, 
 use Rattle.std.proofs.lemmas.Bool.{cases_eq}
 use Rattle.std.proofs.lemmas.List.{length-append}
 use Rattle.pn_types.specs.declared.image.Image.{Image}
-use Rattle.rv_word.specs.Exec.{done, exec_of}
+use Rattle.rv_word.specs.Exec.{done_of_outcome, exec_of}
 use Rattle.rv_word.specs.Plain.{program_word}
 use Rattle.rv_word.specs.declared.outcome.Next.{Next}
 use Rattle.rv_word.specs.declared.outcome.Next.TheVariants.{Go, Stop}
@@ -18,7 +18,7 @@ use Rattle.tramp_spec.specs.declared.mark.Mark.{Mark}
 use Rattle.tramp_spec.specs.declared.mark.Mark.TheVariants.{Own, Enter, Tool, Leave}
 use Rattle.tramp_spec.specs.declared.mark.MarkedWord.{MarkedWord}
 use Rattle.machine.specs.Cores.{Row, Core, first_hart, start_core}
-use Rattle.machine.specs.Effects.{after, owned, armed, mini_linked, mini_unlinked, point_linked, point_unlinked}
+use Rattle.machine.specs.Effects.{after_event, owned, armed_hart, mini_linked, mini_unlinked, point_linked, point_unlinked}
 use Rattle.machine.specs.Events.{Event, Turn, Write, LinkMini, UnlinkMini, LinkPoint, UnlinkPoint, Free, Arm, Sample, May, current_base, row_at, before}
 use Rattle.machine.specs.Quanta.{IsQuantum, QuantaAreLegal, ticks_in, TimeGoesOn, KeepsBudget, BudgetIsKept}
 use Rattle.machine.specs.Reached.{IsReached}
@@ -60,7 +60,7 @@ other_ticks (Ok s) m word home x = refl
 other_ticks (Err cause) m word home x = refl
 
 marked_ticks : (m : Mark) (word h home : ℕ) (s : Solo) → (marked_step m word h home s).hart.ticks ≡ cond (is_own m) (s.hart.ticks + 1) s.hart.ticks
-marked_ticks Own word h home s = let d = done (exec_of word s.hart.pc h s.hart.regs s.prog) s.hart.regs in ap (λ n. n + 1) (own_ticks d.next d.regs word home s.hart)
+marked_ticks Own word h home s = let d = done_of_outcome (exec_of word s.hart.pc h s.hart.regs s.prog) s.hart.regs in ap (λ n. n + 1) (own_ticks d.next d.regs word home s.hart)
 marked_ticks Enter word h home s = other_ticks (step_on (reach_of Enter) word s.hart.ticks s.hart.pc (bench_of s.hart)) Enter word home s.hart
 marked_ticks Tool word h home s = other_ticks (step_on (reach_of Tool) word s.hart.ticks s.hart.pc (bench_of s.hart)) Tool word home s.hart
 marked_ticks Leave word h home s = other_ticks (step_on (reach_of Leave) word s.hart.ticks s.hart.pc (bench_of s.hart)) Leave word home s.hart
@@ -115,23 +115,23 @@ same_own (Some w) p c = refl
 none_more : (xs ys : List Hart) → xs ≡ ys → ticks_in xs ≡ ticks_in ys + 0
 none_more xs ys e = let s = ap ticks_in e in omega arith
 
-time_after : (e : Event) (c : Core) → ticks_in (after c e).harts ≡ ticks_in c.harts + length (owned c e)
+time_after : (e : Event) (c : Core) → ticks_in (after_event c e).harts ≡ ticks_in c.harts + length (owned c e)
 time_after (Turn h) c = time_turn (slice_get c.harts h) c h refl
 time_after (Write b) c = none_more c.harts c.harts refl
-time_after (LinkMini p m) c = none_more (after c (LinkMini p m)).harts c.harts (same_link (current_base c.rows p) m c)
-time_after (UnlinkMini p m) c = none_more (after c (UnlinkMini p m)).harts c.harts (same_unlink (before c m) (row_at c.rows m) m c)
-time_after (LinkPoint p) c = none_more (after c (LinkPoint p)).harts c.harts (same_enter (current_base c.rows p) p c)
-time_after (UnlinkPoint p) c = none_more (after c (UnlinkPoint p)).harts c.harts (same_own (program_word c.program p) p c)
+time_after (LinkMini p m) c = none_more (after_event c (LinkMini p m)).harts c.harts (same_link (current_base c.rows p) m c)
+time_after (UnlinkMini p m) c = none_more (after_event c (UnlinkMini p m)).harts c.harts (same_unlink (before c m) (row_at c.rows m) m c)
+time_after (LinkPoint p) c = none_more (after_event c (LinkPoint p)).harts c.harts (same_enter (current_base c.rows p) p c)
+time_after (UnlinkPoint p) c = none_more (after_event c (UnlinkPoint p)).harts c.harts (same_own (program_word c.program p) p c)
 time_after (Free p) c = none_more c.harts c.harts refl
-time_after (Arm i) c = let r = ticks_armed (armed c i) c.harts (λ x. refl) in omega arith
+time_after (Arm i) c = let r = ticks_armed (armed_hart c i) c.harts (λ x. refl) in omega arith
 time_after (Sample i) c = none_more c.harts c.harts refl
 
 pub time_goes_on : TimeGoesOn
 time_goes_on [] c = omega arith
 time_goes_on (e ∷ es) c =
     let first = time_after e c in
-    let rest = time_goes_on es (after c e) in
-    let both = length-append (owned c e) (owns es (after c e)) in
+    let rest = time_goes_on es (after_event c e) in
+    let both = length-append (owned c e) (owns es (after_event c e)) in
     omega arith
 
 -- ---- the budget
@@ -158,20 +158,20 @@ turn_below c h r may k (Some x) e = λ j y i. ⊎_elim (λ (same : j ≡ h). her
         let ticks : y.ticks ≡ cond (is_tick (fetched c.program c.code x)) (x.ticks + 1) x.ticks = ap (λ (v : Hart). v.ticks) is ∙ step_ticks (fetched c.program c.code x) h _ (record { hart = x; prog = c.prog }) in
         subst (λ n. n ≤ c.budget) (sym ticks) (at (is_tick (fetched c.program c.code x)) refl)
 
-below_after : (e : Event) (c : Core) → IsReached c → May c e → KeepsBudget c → KeepsBudget (after c e)
+below_after : (e : Event) (c : Core) → IsReached c → May c e → KeepsBudget c → KeepsBudget (after_event c e)
 below_after (Turn h) c r m k = turn_below c h r m k (slice_get c.harts h) refl
 below_after (Write b) c r m k = k
-below_after (LinkMini p n) c r m k = same_below c (after c (LinkMini p n)) (fixed c (LinkMini p n)).1 (same_link (current_base c.rows p) n c) k
-below_after (UnlinkMini p n) c r m k = same_below c (after c (UnlinkMini p n)) (fixed c (UnlinkMini p n)).1 (same_unlink (before c n) (row_at c.rows n) n c) k
-below_after (LinkPoint p) c r m k = same_below c (after c (LinkPoint p)) (fixed c (LinkPoint p)).1 (same_enter (current_base c.rows p) p c) k
-below_after (UnlinkPoint p) c r m k = same_below c (after c (UnlinkPoint p)) (fixed c (UnlinkPoint p)).1 (same_own (program_word c.program p) p c) k
+below_after (LinkMini p n) c r m k = same_below c (after_event c (LinkMini p n)) (fixed c (LinkMini p n)).1 (same_link (current_base c.rows p) n c) k
+below_after (UnlinkMini p n) c r m k = same_below c (after_event c (UnlinkMini p n)) (fixed c (UnlinkMini p n)).1 (same_unlink (before c n) (row_at c.rows n) n c) k
+below_after (LinkPoint p) c r m k = same_below c (after_event c (LinkPoint p)) (fixed c (LinkPoint p)).1 (same_enter (current_base c.rows p) p c) k
+below_after (UnlinkPoint p) c r m k = same_below c (after_event c (UnlinkPoint p)) (fixed c (UnlinkPoint p)).1 (same_own (program_word c.program p) p c) k
 below_after (Free p) c r m k = k
-below_after (Arm i) c r m k = stay_below c (after c (Arm i)) refl (λ h y e. let q = get_map (armed c i) c.harts h y e in (q.0, q.1, ap (λ (v : Hart). v.ticks) q.2)) k
+below_after (Arm i) c r m k = stay_below c (after_event c (Arm i)) refl (λ h y e. let q = get_map (armed_hart c i) c.harts h y e in (q.0, q.1, ap (λ (v : Hart). v.ticks) q.2)) k
 below_after (Sample i) c r m k = k
 
 all_below : (es : List Event) (c : Core) → IsReached c → Legal es c → KeepsBudget c → KeepsBudget (replay es c)
 all_below [] c r l k = k
-all_below (e ∷ es) c r l k = all_below es (after c e) (reaches_more c e r l.0) l.1 (below_after e c r l.0 k)
+all_below (e ∷ es) c r l k = all_below es (after_event c e) (reaches_more c e r l.0) l.1 (below_after e c r l.0 k)
 
 first_below : (image : Image) (n budget : ℕ) → KeepsBudget (start_core image n budget)
 first_below image n budget h x e =

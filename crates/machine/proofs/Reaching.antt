@@ -10,9 +10,9 @@ use Rattle.rv_word.specs.Plain.{Words, Plain}
 use Rattle.tramp_spec.specs.Codes.{is_tool_word, tool_at}
 use Rattle.machine.specs.Cores.{In, Row, Core, start_core}
 use Rattle.machine.specs.Events.{Event, May, link_at}
-use Rattle.machine.specs.Effects.{after}
+use Rattle.machine.specs.Effects.{after_event}
 use Rattle.machine.specs.Places.{holds}
-use Rattle.machine.specs.Links.{HasLink, IsWithin}
+use Rattle.machine.specs.Links.{HasLink, IsInText}
 use Rattle.machine.specs.Reached.{IsReached}
 use Rattle.machine.specs.Replays.{replay, Legal, owns}
 use Rattle.machine.proofs.Beginning.{begins}
@@ -23,18 +23,18 @@ use Rattle.machine.proofs.Replaying.{legal-append, replay-append}
 use Rattle.machine.proofs.Steps.{all_events, fixed}
 
 -- what may happen now leads to such a state
-pub reaches_more : (c : Core) (e : Event) → IsReached c → May c e → IsReached (after c e)
+pub reaches_more : (c : Core) (e : Event) → IsReached c → May c e → IsReached (after_event c e)
 reaches_more c e r m =
     let first = start_core r.image r.many in
     let more = r.events ++ e ∷ [] in
-    let budget : (after c e).budget ≡ c.budget = (fixed c e).1 in
+    let budget : (after_event c e).budget ≡ c.budget = (fixed c e).1 in
     record {
       image = r.image;
       many = r.many;
       events = more;
       program = r.program;
       legal = subst (λ b. Legal more (first b)) (sym budget) (legal-append r.events (e ∷ []) (first c.budget) r.legal (subst (λ d. May d e) r.is m, tt));
-      is = subst (λ b. after c e ≡ replay more (first b)) (sym budget) (ap (λ d. after d e) r.is ∙ sym (replay-append r.events (e ∷ []) (first c.budget)));
+      is = subst (λ b. after_event c e ≡ replay more (first b)) (sym budget) (ap (λ d. after_event d e) r.is ∙ sym (replay-append r.events (e ∷ []) (first c.budget)));
     }
 
 -- what is kept at every event
@@ -74,11 +74,11 @@ tool_word t at len a n al lo hi e l =
     and_from _ _ (and_from _ _ (le-leb (tool_at t) a low) (lt-ltb _ _ far)) (eq-eqb _ _ even)
 
 -- the blocks stand in tool text
-pub within : (c : Core) → IsReached c → (r : Row) → In r c.rows → IsWithin c.program r
+pub within : (c : Core) → IsReached c → (r : Row) → In r c.rows → IsInText c.program r
 within c k r h =
     let v = (good c k).1 in
     let q = piece_of c.program c.code c.rows v.ps v.clock v.static r h in
-    subst (IsWithin c.program) (sym q.2) (let p = v.static.places q.0 q.1 in record { aligned = p.aligned; low = p.low; high = p.high })
+    subst (IsInText c.program) (sym q.2) (let p = v.static.places q.0 q.1 in record { aligned = p.aligned; low = p.low; high = p.high })
 
 pub links : (c : Core) → IsReached c → (r : Row) → In r c.rows → HasLink c.program r
 links c k r h =

@@ -18,11 +18,11 @@ use Rattle.tramp_spec.specs.Slots.{places, read_first, read_place}
 use Rattle.prim_code.specs.Fitting.{IsMeasurable}
 use Rattle.prim_code.specs.Standing.{HasValue}
 use Rattle.machine.specs.Cores.{Core, start_core}
-use Rattle.machine.specs.Effects.{after}
+use Rattle.machine.specs.Effects.{after_event}
 use Rattle.machine.specs.Events.{Event, Arm, IsQuiet}
 use Rattle.machine.specs.Instruments.{reading, Carries, IsSpared, AllLet}
 use Rattle.machine.specs.Laws.{IsProgram}
-use Rattle.machine.specs.Measures.{Level, passed_by, level, level_at, opened, is_timer, measured, difference, measure, measure_of}
+use Rattle.machine.specs.Measures.{Level, passed_by, level, level_at, opening_level, is_timer, measured, difference, measure, measure_of}
 use Rattle.machine.specs.Readings.{reading_if, readings, ticks_of, ReadingsMeasure}
 use Rattle.machine.specs.Replays.{replay, Legal, owns}
 use Rattle.machine.proofs.Beginning.{begins, starts}
@@ -54,21 +54,21 @@ reads_level (s ∷ slots) (x ∷ vars) many spare v bank ticks e m k = by x.time
 -- ---- parts of a run
 
 module _ (t : Words) (plan : Plan) (h : ℕ) (a b c : List ℕ) (s : Plain) where
-  level_first : level_at t plan h (length a) (length a + length b) (a ++ (b ++ c)) s ≡ level t plan h b (run_from t a s) (opened plan (run_from t a s) h)
+  level_first : level_at t plan h (length a) (length a + length b) (a ++ (b ++ c)) s ≡ level t plan h b (run_from t a s) (opening_level plan (run_from t a s) h)
   level_first =
       let turns : take (length a) (a ++ (b ++ c)) ≡ a = take-append_seam a (b ++ c) in
       let both : take (length a + length b) (a ++ (b ++ c)) ≡ a ++ b = take-append-add a (b ++ c) (length b) ∙ ap (λ l. a ++ l) (take-append_seam b c) in
-      ap (λ l. level t plan h (drop (length a) (take (length a + length b) (a ++ (b ++ c)))) (run_from t l s) (opened plan (run_from t l s) h)) turns
-      ∙ ap (λ l. level t plan h l (run_from t a s) (opened plan (run_from t a s) h)) (ap (drop (length a)) both ∙ drop-append_seam a b)
+      ap (λ l. level t plan h (drop (length a) (take (length a + length b) (a ++ (b ++ c)))) (run_from t l s) (opening_level plan (run_from t l s) h)) turns
+      ∙ ap (λ l. level t plan h l (run_from t a s) (opening_level plan (run_from t a s) h)) (ap (drop (length a)) both ∙ drop-append_seam a b)
 
-  level_second : level_at t plan h (length a) (length a + (length b + length c)) (a ++ (b ++ c)) s ≡ level t plan h c (run_from t b (run_from t a s)) (level t plan h b (run_from t a s) (opened plan (run_from t a s) h))
+  level_second : level_at t plan h (length a) (length a + (length b + length c)) (a ++ (b ++ c)) s ≡ level t plan h c (run_from t b (run_from t a s)) (level t plan h b (run_from t a s) (opening_level plan (run_from t a s) h))
   level_second =
       let turns : take (length a) (a ++ (b ++ c)) ≡ a = take-append_seam a (b ++ c) in
       let all : take (length a + (length b + length c)) (a ++ (b ++ c)) ≡ a ++ (b ++ c) =
       take-append-add a (b ++ c) (length b + length c) ∙ ap (λ l. a ++ l) (take-append-add b c (length c) ∙ ap (λ l. b ++ l) (whole c)) in
-      ap (λ l. level t plan h (drop (length a) (take (length a + (length b + length c)) (a ++ (b ++ c)))) (run_from t l s) (opened plan (run_from t l s) h)) turns
-      ∙ (ap (λ l. level t plan h l (run_from t a s) (opened plan (run_from t a s) h)) (ap (drop (length a)) all ∙ drop-append_seam a (b ++ c))
-      ∙ level-append t plan h b c (run_from t a s) (opened plan (run_from t a s) h))
+      ap (λ l. level t plan h (drop (length a) (take (length a + (length b + length c)) (a ++ (b ++ c)))) (run_from t l s) (opening_level plan (run_from t l s) h)) turns
+      ∙ (ap (λ l. level t plan h l (run_from t a s) (opening_level plan (run_from t a s) h)) (ap (drop (length a)) all ∙ drop-append_seam a (b ++ c))
+      ∙ level-append t plan h b c (run_from t a s) (opening_level plan (run_from t a s) h))
     where
       whole : (xs : List ℕ) → take (length xs) xs ≡ xs
       whole [] = refl
@@ -178,7 +178,7 @@ module _ (image : Image) (n budget : ℕ) (i : Placed) (plan : Plan) (harts : Li
   s1 = run_from t (owns before c0) s0
 
   abbrev armed : Core
-  armed = after c1 (Arm i)
+  armed = after_event c1 (Arm i)
 
   abbrev c2 : Core
   c2 = replay first armed
@@ -194,11 +194,11 @@ module _ (image : Image) (n budget : ℕ) (i : Placed) (plan : Plan) (harts : Li
 
   stays : (es : List Event) (c : Core) → (replay es c).budget ≡ c.budget
   stays [] c = refl
-  stays (e ∷ es) c = stays es (after c e) ∙ (fixed c e).1
+  stays (e ∷ es) c = stays es (after_event c e) ∙ (fixed c e).1
 
   program_stays : (es : List Event) (c : Core) → (replay es c).program ≡ c.program
   program_stays [] c = refl
-  program_stays (e ∷ es) c = program_stays es (after c e) ∙ (fixed c e).0
+  program_stays (e ∷ es) c = program_stays es (after_event c e) ∙ (fixed c e).0
 
   low : (es : List Event) (c : Core) → c.budget < 2 ^ 58 → (replay es c).budget < 2 ^ 58
   low es c l = subst (λ b. b < 2 ^ 58) (sym (stays es c)) l
@@ -206,7 +206,7 @@ module _ (image : Image) (n budget : ℕ) (i : Placed) (plan : Plan) (harts : Li
   first_ticks : AreWithin budget s0
   first_ticks h y e = let k = starts n 0 n h image y e in let z : y.ticks ≡ 0 = ap (λ (u : PlainHart). u.ticks) k.1 in omega arith
 
-  known : (families : ℕ → ℕ) × (ages : ℕ → ℕ) × Known i plan families ages armed s1 (λ h. opened plan s1 h)
+  known : (families : ℕ → ℕ) × (ages : ℕ → ℕ) × Known i plan families ages armed s1 (λ h. opening_level plan s1 h)
   known =
       let a = all_events before t budget c0 s0 refl refl (begins image n budget p) parts.0 in
       let w = within_run t budget (owns before c0) s0 a.0 first_ticks in
@@ -219,7 +219,7 @@ module _ (image : Image) (n budget : ℕ) (i : Placed) (plan : Plan) (harts : Li
   cores = (replay-append before (Arm i ∷ first) c0, replay-append before (Arm i ∷ (first ++ rest)) c0 ∙ replay-append first rest armed)
 
   differ : (h : ℕ) → difference (reading_if i (slice_get c2.harts h)) (reading_if i (slice_get c3.harts h))
-      ≡ difference (measured plan (level t plan h (owns first armed) s1 (opened plan s1 h))) (measured plan (level t plan h (owns rest c2) (run_from t (owns first armed) s1) (level t plan h (owns first armed) s1 (opened plan s1 h))))
+      ≡ difference (measured plan (level t plan h (owns first armed) s1 (opening_level plan s1 h))) (measured plan (level t plan h (owns rest c2) (run_from t (owns first armed) s1) (level t plan h (owns first armed) s1 (opening_level plan s1 h))))
   differ h =
       let q = known in
       let l = all_let i first rest lets in
@@ -227,9 +227,9 @@ module _ (image : Image) (n budget : ℕ) (i : Placed) (plan : Plan) (harts : Li
       let e1 : armed.program ≡ t = (fixed c1 (Arm i)).0 ∙ program_stays before c0 in
       let e2 : c2.program ≡ t = program_stays first armed ∙ e1 in
       let cap2 = low first armed (subst (λ b. b < 2 ^ 58) (sym (fixed c1 (Arm i)).1) cap1) in
-      let k1 = all_since i plan q.0 q.1 first t armed s1 (λ h. opened plan s1 h) e1 (wide armed (subst (λ b. b < 2 ^ 58) (sym (fixed c1 (Arm i)).1) cap1)) q.2 since.0 l.0 in
-      let k2 = all_since i plan q.0 q.1 rest t c2 (run_from t (owns first armed) s1) (λ j. level t plan j (owns first armed) s1 (opened plan s1 j)) e2 (wide c2 cap2) k1 since.1 l.1 in
-      both i plan q.0 q.1 k.many k.vars t c2 c3 (run_from t (owns first armed) s1) (owns rest c2) (λ j. level t plan j (owns first armed) s1 (opened plan s1 j)) k1 k2
+      let k1 = all_since i plan q.0 q.1 first t armed s1 (λ h. opening_level plan s1 h) e1 (wide armed (subst (λ b. b < 2 ^ 58) (sym (fixed c1 (Arm i)).1) cap1)) q.2 since.0 l.0 in
+      let k2 = all_since i plan q.0 q.1 rest t c2 (run_from t (owns first armed) s1) (λ j. level t plan j (owns first armed) s1 (opening_level plan s1 j)) e2 (wide c2 cap2) k1 since.1 l.1 in
+      both i plan q.0 q.1 k.many k.vars t c2 c3 (run_from t (owns first armed) s1) (owns rest c2) (λ j. level t plan j (owns first armed) s1 (opening_level plan s1 j)) k1 k2
       (subst IsQuiet cores.0 earlier) (subst IsQuiet cores.1 now) h
 
   -- the ticks
@@ -244,7 +244,7 @@ module _ (image : Image) (n budget : ℕ) (i : Placed) (plan : Plan) (harts : Li
   measured_so =
       sums t plan i harts (length (owns before c0)) (length (owns before c0) + length (owns first armed)) (length (owns before c0) + (length (owns first armed) + length (owns rest c2))) (owns before c0 ++ (owns first armed ++ owns rest c2)) s0 c2 c3
       (λ h. differ h
-      ∙ (ap (λ v. difference (measured plan v) (measured plan (level t plan h (owns rest c2) (run_from t (owns first armed) s1) (level t plan h (owns first armed) s1 (opened plan s1 h))))) (sym (level_first t plan h (owns before c0) (owns first armed) (owns rest c2) s0))
+      ∙ (ap (λ v. difference (measured plan v) (measured plan (level t plan h (owns rest c2) (run_from t (owns first armed) s1) (level t plan h (owns first armed) s1 (opening_level plan s1 h))))) (sym (level_first t plan h (owns before c0) (owns first armed) (owns rest c2) s0))
       ∙ ap (λ v. difference (measured plan (level_at t plan h (length (owns before c0)) (length (owns before c0) + length (owns first armed)) (owns before c0 ++ (owns first armed ++ owns rest c2)) s0)) (measured plan v)) (sym (level_second t plan h (owns before c0) (owns first armed) (owns rest c2) s0))))
 
   pub so : difference (readings i harts (replay (before ++ Arm i ∷ first) c0)) (readings i harts (replay (before ++ Arm i ∷ (first ++ rest)) c0))

@@ -22,7 +22,7 @@ use Rattle.tramp_spec.specs.Marks.{own, tool, leave}
 use Rattle.tramp_spec.specs.MovedWords.{own_place, rebuilt}
 use Rattle.tramp_spec.specs.declared.mark.MarkedWord.{MarkedWord}
 use Rattle.machine.specs.Cores.{In, Row, Core}
-use Rattle.machine.specs.Places.{block_at, word_no, program_pc, saved_in, has_saved, rebuilding_by, rebuilding_in, rebuilding_of, seen}
+use Rattle.machine.specs.Places.{block_at, word_no, program_pc, saved_in, has_saved, rebuilding_by, rebuilding_in, rebuilding_of, program_register}
 use Rattle.machine.specs.Same.{SameProgram}
 use Rattle.machine.proofs.Lists.{stands_at, get_append, get_before}
 use Rattle.machine.proofs.Invariant.{Piece, IsBase, base_with, BaseShape, MiniShape, Static, Saved, Outside, AtSave, AtSaved, AtMoved, AtLeave, InBase, InMini, Dynamic, Inv}
@@ -33,7 +33,7 @@ module _ (t : Words) (budget : ℕ) (code : Code) (rows : List Row) (ps : List P
   -- what is seen of a hart in a block at its word number n
   record Seen : Type 0 where
     pc : program_pc code rows x ≡ y.pc
-    regs : (r : ℕ) → 0 < r → r < 31 → rebuilding_of t rows x ≢ Some r → seen rows x r ≡ reg y.regs r
+    regs : (r : ℕ) → 0 < r → r < 31 → rebuilding_of t rows x ≢ Some r → program_register rows x r ≡ reg y.regs r
 
   base_shape : (b : Piece) → In b ps → IsBase b → BaseShape t code b.row b.next
   base_shape = homes.base_shape t code rows ps clock st
@@ -64,10 +64,10 @@ module _ (t : Words) (budget : ℕ) (code : Code) (rows : List Row) (ps : List P
     home_is : (w : MarkedWord) → get code x.pc ≡ Some w → program_pc code rows x ≡ home_by w x.pc p.row.point
     home_is w e = cond-true x.inside _ _ i ∙ home_word t code rows ps clock st p x.pc w hp (omega arith) (omega arith) e
 
-    unsaved : is_saved p.row.base n ≡ false → (r : ℕ) → seen rows x r ≡ reg x.regs r
+    unsaved : is_saved p.row.base n ≡ false → (r : ℕ) → program_register rows x r ≡ reg x.regs r
     unsaved e r = cond-false (has_saved rows x && (r == 5)) _ _ (and_left (has_saved rows x) (r == 5) (saved_is ∙ e))
 
-    saved : is_saved p.row.base n ≡ true → Saved x y → (r : ℕ) → r < 31 → seen rows x r ≡ reg y.regs r
+    saved : is_saved p.row.base n ≡ true → Saved x y → (r : ℕ) → r < 31 → program_register rows x r ≡ reg y.regs r
     saved e s r u = ⊎_elim
         (λ (q : r ≡ 5). cond-true (has_saved rows x && (r == 5)) _ _ (and_from _ _ (saved_is ∙ e) (eq-eqb r 5 q)) ∙ (s.saved ∙ ap (reg y.regs) (sym q)))
         (λ (q : r ≡ 5 → ⊥). cond-false (has_saved rows x && (r == 5)) _ _ (and_right (has_saved rows x) (r == 5) (ne_eqb r 5 q)) ∙ s.agree r u q)

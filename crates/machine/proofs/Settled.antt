@@ -9,7 +9,7 @@ use Rattle.pn_types.specs.declared.limits.TheConstants.{TOOL_TEXT_LEN}
 use Rattle.rv_word.specs.declared.outcome.Cause.{Cause}
 use Rattle.tramp_spec.specs.Harts.{Hart}
 use Rattle.machine.specs.Cores.{Row, Core}
-use Rattle.machine.specs.Effects.{after}
+use Rattle.machine.specs.Effects.{after_event}
 use Rattle.machine.specs.Events.{Event, Turn, IsQuiet}
 use Rattle.machine.specs.Leaving.{words_at, is_out, is_out_now, OutWithin, OutSoon}
 use Rattle.machine.specs.Reached.{IsReached}
@@ -25,7 +25,7 @@ use Rattle.machine.proofs.Steps.{within}
 -- many events more
 pub reaches_all : (es : List Event) (c : Core) → IsReached c → Legal es c → IsReached (replay es c)
 reaches_all [] c r l = r
-reaches_all (e ∷ es) c r l = reaches_all es (after c e) (reaches_more c e r l.0) l.1
+reaches_all (e ∷ es) c r l = reaches_all es (after_event c e) (reaches_more c e r l.0) l.1
 
 -- ---- one hart
 
@@ -227,10 +227,10 @@ settling_first old most w l =
 -- one hart more
 pub settling_step : (most turns ticks h taken own : ℕ) (old now new : Machine) → Settling most turns ticks h old now → h < length old.core.harts → new ≡ with_core now (replay (leaving most h now.core) now.core)
     → taken ≡ length (leaving most h now.core) → own ≡ length (owns (leaving most h now.core) now.core) → own ≤ taken → taken ≤ most → Settling most (turns + taken) (ticks + own) (h + 1) old new
-settling_step most turns ticks h taken own old now new s l e t o less low = subst (Settling most (turns + taken) (ticks + own) (h + 1) old) (sym e) after
+settling_step most turns ticks h taken own old now new s l e t o less low = subst (Settling most (turns + taken) (ticks + own) (h + 1) old) (sym e) after_event
   where
-    after : Settling most (turns + taken) (ticks + own) (h + 1) old (with_core now (replay (leaving most h now.core) now.core))
-    after =
+    after_event : Settling most (turns + taken) (ticks + own) (h + 1) old (with_core now (replay (leaving most h now.core) now.core))
+    after_event =
         let c = now.core in
         let d = replay (leaving most h c) c in
         let one : length old.core.harts - h ≡ suc (length old.core.harts - (h + 1)) = omega arith in

@@ -12,7 +12,7 @@ use Rattle.tramp_spec.specs.Harts.{Hart, Solo, is_tick}
 use Rattle.machine.specs.Cores.{Core, Row, Status}
 use Rattle.machine.specs.Turns.{fetched, may_turn, turn_by, put_back, ticks_by, turn_alone}
 use Rattle.machine.specs.Events.{Event, Turn, Write, LinkMini, UnlinkMini, LinkPoint, UnlinkPoint, Free, Arm, Sample, May}
-use Rattle.machine.specs.Effects.{after, owned, written, mini_linked, point_linked, point_unlinked}
+use Rattle.machine.specs.Effects.{after_event, owned, with_block, mini_linked, point_linked, point_unlinked}
 use Rattle.machine.specs.Kept.{Linkings, link_under, linkings_after, linkings}
 use Rattle.machine.specs.Replays.{replay, Legal, owns}
 pub use Rattle.machine.proofs.Effects.{Fixed, fixed}
@@ -65,10 +65,10 @@ pub record Counted (l : Linkings) (c : Core) (s : Plain) : Type 0 where
 
 -- what an event owes
 abbrev pub Does : Core → Plain → Event → Type 0
-Does c s e = LegalFrom c.program c.budget (owned c e) s × Inv (after c e) (run_from c.program (owned c e) s)
+Does c s e = LegalFrom c.program c.budget (owned c e) s × Inv (after_event c e) (run_from c.program (owned c e) s)
 
 abbrev DoesCounted : Linkings → Core → Plain → Event → Type 0
-DoesCounted l c s e = LegalFrom c.program c.budget (owned c e) s × Counted (linkings_after c e l) (after c e) (run_from c.program (owned c e) s)
+DoesCounted l c s e = LegalFrom c.program c.budget (owned c e) s × Counted (linkings_after c e l) (after_event c e) (run_from c.program (owned c e) s)
 
 turn_by_tick : (l : Linkings) (c : Core) (s : Plain) (h : ℕ) (x : Hart) (y : PlainHart) (b : Bool) (z : Solo) (v : Inv c s) → Numbers l v.ps v.clock → (bound : Option ℕ) → slice_get c.harts h ≡ Some x → slice_get s.harts h ≡ Some y → OwesBy b c.program c.budget v.ps v.clock bound h z y c.prog
     → LegalFrom c.program c.budget (cond b (h ∷ []) []) s × Counted l (put_back c h z) (run_from c.program (cond b (h ∷ []) []) s)
@@ -109,18 +109,18 @@ counted l c d s v n k = record { inv = k.inv; numbers = k.numbers l n }
 counted_step : (l : Linkings) (c : Core) (s : Plain) (e : Event) (v : Inv c s) → Numbers l v.ps v.clock → May c e → DoesCounted l c s e
 unfolding arms
 counted_step l c s (Turn h) v n m = turns l c s h v n (slice_get c.harts h) refl m
-counted_step l c s (Write b) v n m = (tt, counted l c (written b c) s v n (write c s v b m).kept)
+counted_step l c s (Write b) v n m = (tt, counted l c (with_block b c) s v n (write c s v b m).kept)
 counted_step l c s (LinkMini p m) v n k =
     let q = k.mini in
     (tt, subst (λ o. Counted (link_under o m l) (mini_linked o m c) s) (sym k.current) (counted l c (mini_linked (Some k.base) m c) s v n (link_mini c s v p m k.base q.row k.current q.listed q.mini q.point q.at q.is k.next)))
-counted_step l c s (UnlinkMini p m) v n k = (tt, counted l c (after c (UnlinkMini p m)) s v n (unlink_mini c s v m k.row k.listed k.mini k.at k.is))
+counted_step l c s (UnlinkMini p m) v n k = (tt, counted l c (after_event c (UnlinkMini p m)) s v n (unlink_mini c s v m k.row k.listed k.mini k.at k.is))
 counted_step l c s (LinkPoint p) v n k = (tt, subst (λ o. Counted l (point_linked o p c) s) (sym k.current) (counted l c (point_linked (Some k.base) p c) s v n (link_point c s v p k.base k.word k.current k.program)))
 counted_step l c s (UnlinkPoint p) v n k = (tt, unlinks_point l c s v n p (plain.program_word c.program p) refl)
   where
     unlinks_point : (l : Linkings) (c : Core) (s : Plain) (v : Inv c s) → Numbers l v.ps v.clock → (p : ℕ) (o : Option ℕ) → plain.program_word c.program p ≡ o → Counted l (point_unlinked o p c) s
     unlinks_point l c s v n p None e = record { inv = v; numbers = n }
     unlinks_point l c s v n p (Some w) e = counted l c (point_unlinked (Some w) p c) s v n (unlink_point c s v p w e)
-counted_step l c s (Free p) v n m = (tt, counted l c (after c (Free p)) s v n (freed c s v p m))
+counted_step l c s (Free p) v n m = (tt, counted l c (after_event c (Free p)) s v n (freed c s v p m))
 counted_step l c s (Arm i) v n m = (tt, record { inv = arms c s i m.quiet v; numbers = n })
 counted_step l c s (Sample i) v n m = (tt, record { inv = v; numbers = n })
 
@@ -135,10 +135,10 @@ counted_events l (e ∷ es) t budget c s et eb v k =
     let a = counted_step l c s e v.inv v.numbers k.0 in
     let f = fixed c e in
     let a0 : LegalFrom t budget (owned c e) s = subst (λ q. LegalFrom q budget (owned c e) s) et (subst (λ b. LegalFrom c.program b (owned c e) s) eb a.0) in
-    let a1 : Counted (linkings_after c e l) (after c e) (run_from t (owned c e) s) = subst (λ q. Counted (linkings_after c e l) (after c e) (run_from q (owned c e) s)) et a.1 in
-    let r = counted_events (linkings_after c e l) es t budget (after c e) (run_from t (owned c e) s) (f.0 ∙ et) (f.1 ∙ eb) a1 k.1 in (
-      LegalFrom-append t budget (owned c e) (owns es (after c e)) s a0 r.0,
-      subst (Counted (linkings es (after c e) (linkings_after c e l)) (replay es (after c e))) (sym (run_from-append t (owned c e) (owns es (after c e)) s)) r.1,
+    let a1 : Counted (linkings_after c e l) (after_event c e) (run_from t (owned c e) s) = subst (λ q. Counted (linkings_after c e l) (after_event c e) (run_from q (owned c e) s)) et a.1 in
+    let r = counted_events (linkings_after c e l) es t budget (after_event c e) (run_from t (owned c e) s) (f.0 ∙ et) (f.1 ∙ eb) a1 k.1 in (
+      LegalFrom-append t budget (owned c e) (owns es (after_event c e)) s a0 r.0,
+      subst (Counted (linkings es (after_event c e) (linkings_after c e l)) (replay es (after_event c e))) (sym (run_from-append t (owned c e) (owns es (after_event c e)) s)) r.1,
     )
 
 -- all events

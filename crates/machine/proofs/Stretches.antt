@@ -2,7 +2,7 @@
 use Rattle.std.proofs.Common.{◌≡◌, ℕ, zero, suc, ◌+◌, ◌<◌, ◌≤◌, arith, inr, List, Option, Some, None, refl, sym, ap, ◌∙◌, subst, IfSome}
 use Rattle.std.specs.Prelude.{is_none, false, IsTrue}
 use Rattle.std.proofs.lemmas.Grind.{common_steps}
-use Rattle.rv_word.specs.Exec.{Prog, Outcome, Stops, Goes, Done, done, exec_decoded, exec_of}
+use Rattle.rv_word.specs.Exec.{Prog, Outcome, Stops, Goes, Done, done_of_outcome, exec_decoded, exec_of}
 use Rattle.rv_word.specs.Table.{decode_of}
 use Rattle.rv_word.specs.Words.{HasWord}
 use Rattle.rv_word.specs.declared.instr.Instr.{Instr}
@@ -18,7 +18,7 @@ use Rattle.tramp_spec.specs.declared.mark.Mark.TheVariants.{Own, Enter, Tool, Le
 use Rattle.tramp_spec.specs.declared.mark.MarkedWord.{MarkedWord}
 use Rattle.code_store.specs.Operations.{IsFlatAt, IsFlatBy}
 use Rattle.code_store.specs.Stores.{StoredCode}
-use Rattle.machine.specs.Alone.{alone_of, may_alone, turned_alone, Leads}
+use Rattle.machine.specs.Alone.{alone_of, may_alone, turned_alone, TurnsLead}
 use Rattle.machine.specs.declared.turning.Progress.{Progress}
 use Rattle.machine.proofs.Alone.{alone_may}
 use Rattle.machine.proofs.IllegalStops.{KeepsIfIllegal, decoded_keeps}
@@ -30,7 +30,7 @@ left pc stop regs p = record { pc = pc; stop = stop; regs = regs; prog = p }
 
 -- what the instruction at an address left
 abbrev Leaves : ℕ → Option Instr → ℕ → List ℕ → Prog → Option Cause → ℕ → List ℕ → Prog → Type 0
-Leaves h i at regs p stop pc new_regs new_p = done (exec_decoded i at h regs p) regs ≡ record { next = next_after stop pc; regs = new_regs; prog = new_p }
+Leaves h i at regs p stop pc new_regs new_p = done_of_outcome (exec_decoded i at h regs p) regs ≡ record { next = next_after stop pc; regs = new_regs; prog = new_p }
 
 -- ---- one word
 
@@ -42,7 +42,7 @@ pub stops : (h : ℕ) (i : Option Instr) (at : ℕ) (regs : List ℕ) (p : Prog)
 stops h i at regs p None pc new_regs new_p e none = absurd cc
 stops h i at regs p (Some cause) pc new_regs new_p e none = sym (ap (λ d. left_as d at) e)
 
-stopped_by : (o : Outcome) (regs : List ℕ) (p : Prog) (pc : ℕ) (new_regs : List ℕ) (new_p : Prog) → KeepsIfIllegal p o → done o regs ≡ record { next = next_after (Some Illegal) pc; regs = new_regs; prog = new_p } → (new_regs ≡ regs) × (new_p ≡ p)
+stopped_by : (o : Outcome) (regs : List ℕ) (p : Prog) (pc : ℕ) (new_regs : List ℕ) (new_p : Prog) → KeepsIfIllegal p o → done_of_outcome o regs ≡ record { next = next_after (Some Illegal) pc; regs = new_regs; prog = new_p } → (new_regs ≡ regs) × (new_p ≡ p)
 stopped_by (Stops why q) regs p pc new_regs new_p keeps e =
     let illegal : why ≡ Illegal = let stop = ap (λ (d : Done). d.next) e in cc in
     (sym (ap (λ (d : Done). d.regs) e), sym (ap (λ (d : Done). d.prog) e) ∙ keeps illegal)
@@ -112,7 +112,7 @@ standing pc regs ticks bank p = record { hart = record { pc = pc; regs = regs; t
 abbrev pub left_standing : ℕ → List ℕ → Left → Solo
 left_standing ticks bank z = record { hart = record { pc = z.pc; regs = z.regs; ticks = ticks; stop = z.stop; inside = false; bank = bank }; prog = z.prog }
 
-own_leaves : (o : Outcome) (word pc : ℕ) (regs : List ℕ) (ticks : ℕ) (bank : List ℕ) (p : Prog) → own_step (done o regs) word pc (standing pc regs ticks bank p).hart ≡ left_standing (ticks + 1) bank (left_as (done o regs) pc)
+own_leaves : (o : Outcome) (word pc : ℕ) (regs : List ℕ) (ticks : ℕ) (bank : List ℕ) (p : Prog) → own_step (done_of_outcome o regs) word pc (standing pc regs ticks bank p).hart ≡ left_standing (ticks + 1) bank (left_as (done_of_outcome o regs) pc)
 own_leaves (Stops cause q) word pc regs ticks bank p = refl
 own_leaves (Goes at others q) word pc regs ticks bank p = refl
 
@@ -138,19 +138,19 @@ module _ (s : StoredCode) (h budget : ℕ) (bank : List ℕ) (z : Left) where
   turned x ticks i none own = ap (turned_alone s h) (stands x ticks none) ∙ step_leaves h (fetched_at s.program s.code x.pc false) i x.pc x.regs ticks bank x.prog own
 
   -- words that are run are turns
-  pub are_turns : (n ticks : ℕ) (x : Left) → AreRun s h n x z → ticks + n ≤ budget → Leads s budget h n (left_standing ticks bank x) (left_standing (ticks + n) bank z)
+  pub are_turns : (n ticks : ℕ) (x : Left) → AreRun s h n x z → ticks + n ≤ budget → TurnsLead s budget h n (left_standing ticks bank x) (left_standing (ticks + n) bank z)
   are_turns zero ticks x r l = let e : ticks + 0 ≡ ticks = omega arith in ap (λ k. left_standing k bank z) e ∙ ap (left_standing ticks bank) r
   are_turns (suc n) ticks x r l = (may x ticks n r.0 l, by (fetched_at s.program s.code x.pc false) refl (λ i o. are_turns n (ticks + 1) (ran h i x.pc x.regs x.prog) o (omega arith)) r.1)
     where
-      by : (w : Option MarkedWord) → w ≡ fetched_at s.program s.code x.pc false → ((i : Option Instr) → AreRun s h n (ran h i x.pc x.regs x.prog) z → Leads s budget h n (left_standing (ticks + 1) bank (ran h i x.pc x.regs x.prog)) (left_standing (ticks + 1 + n) bank z))
-          → HasOwn w (λ j. AreRun s h n (ran h j x.pc x.regs x.prog) z) → Leads s budget h n (turned_alone s h (left_standing ticks bank x)) (left_standing (ticks + suc n) bank z)
+      by : (w : Option MarkedWord) → w ≡ fetched_at s.program s.code x.pc false → ((i : Option Instr) → AreRun s h n (ran h i x.pc x.regs x.prog) z → TurnsLead s budget h n (left_standing (ticks + 1) bank (ran h i x.pc x.regs x.prog)) (left_standing (ticks + 1 + n) bank z))
+          → HasOwn w (λ j. AreRun s h n (ran h j x.pc x.regs x.prog) z) → TurnsLead s budget h n (turned_alone s h (left_standing ticks bank x)) (left_standing (ticks + suc n) bank z)
       by None e rest o = absurd o
       by (Some w) e rest o =
           let i = decode_of w.word in
           let own : HasOwn (fetched_at s.program s.code x.pc false) (λ j. j ≡ i) = subst (λ v. HasOwn v (λ j. j ≡ i)) e (o.0, refl) in
           let count : ticks + 1 + n ≡ ticks + suc n = omega arith in
-          subst (λ k. Leads s budget h n (turned_alone s h (left_standing ticks bank x)) (left_standing k bank z)) count
-          (subst (λ v. Leads s budget h n v (left_standing (ticks + 1 + n) bank z)) (sym (turned x ticks i r.0 own)) (rest i o.1))
+          subst (λ k. TurnsLead s budget h n (turned_alone s h (left_standing ticks bank x)) (left_standing k bank z)) count
+          (subst (λ v. TurnsLead s budget h n v (left_standing (ticks + 1 + n) bank z)) (sym (turned x ticks i r.0 own)) (rest i o.1))
 
 -- a hart that can take a turn isn't stopped, and outside it has ticks left
 pub outside_below : (a : Progress) (x : Hart) (p : Prog) (budget : ℕ) → IsTrue (may_alone budget (alone_of a x p))

@@ -11,13 +11,13 @@ use Rattle.tramp_spec.specs.Codes.{fetched_at, is_tool_word}
 use Rattle.tramp_spec.specs.Harts.{Hart, Solo, step_of, is_tick}
 use Rattle.code_store.specs.Stores.{StoredCode}
 use Rattle.machine.specs.Cores.{Row, Core}
-use Rattle.machine.specs.Effects.{after, armed_in}
+use Rattle.machine.specs.Effects.{after_event, armed_in}
 use Rattle.machine.specs.Events.{Arm, MayArm, Turn}
 use Rattle.machine.specs.Performing.{home_in_store, solo_of}
 use Rattle.machine.specs.Places.{program_pc}
 use Rattle.machine.specs.Reached.{IsReached}
 use Rattle.machine.specs.Turns.{is_runnable, ticks_by, put_back, turn_by}
-use Rattle.machine.specs.Views.{IsSound, core_of}
+use Rattle.machine.specs.Views.{AreMachineParts, core_of}
 use Rattle.machine.proofs.Lists.{length_slice_set}
 use Rattle.machine.proofs.HartPlaces.{stands, home_is, below_budget}
 use Rattle.machine.proofs.Reaching.{reaches_more}
@@ -26,7 +26,7 @@ use Rattle.machine.proofs.Reaching.{reaches_more}
 pub element : (xs : List Hart) (h : ℕ) (x : Hart) → h < length xs → x ≡ get_or xs h x → slice_get xs h ≡ Some x
 element xs h x l e = slice_get-get_or xs h x l ∙ ap (λ (y : Hart). Some y) (sym e)
 
-module _ (harts : List Hart) (p : Prog) (s : StoredCode) (rows : List Row) (budget : ℕ) (sound : IsSound harts p s rows budget) (h : ℕ) (x : Hart) (ex : slice_get harts h ≡ Some x) where
+module _ (harts : List Hart) (p : Prog) (s : StoredCode) (rows : List Row) (budget : ℕ) (sound : AreMachineParts harts p s rows budget) (h : ℕ) (x : Hart) (ex : slice_get harts h ≡ Some x) where
   abbrev core : Core
   core = core_of harts p s rows budget
 
@@ -40,12 +40,12 @@ module _ (harts : List Hart) (p : Prog) (s : StoredCode) (rows : List Row) (budg
   countable may tick = let b = below_budget core sound.reached h x ex may (ap (λ o. ticks_by o core) ex ∙ tick) in let high = sound.countable in omega arith
 
   module _ (may : IsTrue (is_runnable core h)) (z : Hart) (q : Prog) (turned : solo_of z q ≡ step_of (fetched_at s.program s.code x.pc x.inside) h (home_in_store s x.pc x.inside) (solo_of x p)) where
-    pub turned_is : core_of (slice_set harts h z) q s rows budget ≡ after core (Turn h)
+    pub turned_is : core_of (slice_set harts h z) q s rows budget ≡ after_event core (Turn h)
     turned_is =
         ap (λ (o : Solo). put_back core h o) (turned ∙ ap (λ home. step_of (fetched_at s.program s.code x.pc x.inside) h home (solo_of x p)) (home_is core s.owners sound.reached sound.owners h x ex))
         ∙ sym (ap (λ o. turn_by o core h) ex)
 
-    pub turned_sound : length q.resv ≡ length p.resv → IsSound (slice_set harts h z) q s rows budget
+    pub turned_sound : length q.resv ≡ length p.resv → AreMachineParts (slice_set harts h z) q s rows budget
     turned_sound e =
         record {
           reached = subst IsReached (sym turned_is) (reaches_more core (Turn h) sound.reached may);
@@ -56,7 +56,7 @@ module _ (harts : List Hart) (p : Prog) (s : StoredCode) (rows : List Row) (budg
         }
 
 -- arming keeps that the parts fit
-pub armed_sound : (harts : List Hart) (p : Prog) (s : StoredCode) (rows : List Row) (budget : ℕ) (i : Placed) → IsSound harts p s rows budget → MayArm (core_of harts p s rows budget) i → IsSound (map (armed_in p.mem i) harts) p s rows budget
+pub armed_sound : (harts : List Hart) (p : Prog) (s : StoredCode) (rows : List Row) (budget : ℕ) (i : Placed) → AreMachineParts harts p s rows budget → MayArm (core_of harts p s rows budget) i → AreMachineParts (map (armed_in p.mem i) harts) p s rows budget
 armed_sound harts p s rows budget i sound may =
     record {
       reached = reaches_more (core_of harts p s rows budget) (Arm i) sound.reached may;

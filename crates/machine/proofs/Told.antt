@@ -7,11 +7,11 @@ use Rattle.pn_types.specs.declared.plan.Act.{Act}
 use Rattle.pn_types.specs.declared.plan.Act.TheVariants.{Up, Down, Put, Start, Stop}
 use Rattle.pn_types.specs.declared.plan.Stmt.{Stmt}
 use Rattle.rv_word.specs.Registers.{arguments_of}
-use Rattle.tramp_spec.specs.Bodies.{Stands, finished}
+use Rattle.tramp_spec.specs.Bodies.{Stands, bank_at_end}
 use Rattle.tramp_spec.specs.Slots.{VariableSlot, places_of, ArePlaces, read_place}
 use Rattle.tramp_spec.specs.Statements.{body_of}
 use Rattle.tramp_spec.specs.Steps.{Bench}
-use Rattle.tramp_spec.specs.Values.{acted, values_behind, values_after, all_hold}
+use Rattle.tramp_spec.specs.Values.{values_after_act, values_behind, values_after, all_hold}
 use Rattle.prim_code.specs.Fitting.{AreStmtsOf}
 use Rattle.prim_code.specs.Standing.{HasValue, StandFor, SameSlots, one_if}
 use Rattle.prim_code.proofs.Keeping.{standing_kept}
@@ -40,7 +40,7 @@ Stood i budget v bank ticks = Tells (places_of i) (length i.vars) (starts (budge
 abbrev pub behind : List Stmt → List ℕ → Level → Level
 behind stmts arguments v = record { values = values_after stmts arguments v.values; runs = v.runs }
 
-length_acted : (a : Act) (values : List ℕ) → length (acted a values) ≡ length values
+length_acted : (a : Act) (values : List ℕ) → length (values_after_act a values) ≡ length values
 length_acted (Up v) values = length-set values v _
 length_acted (Down v) values = length-set values v _
 length_acted (Put v n) values = length-set values v n
@@ -54,7 +54,7 @@ length_if false xs ys e = refl
 length_after : (stmts : List Stmt) (arguments values : List ℕ) → length (values_after stmts arguments values) ≡ length values
 length_after [] arguments values = refl
 length_after (s ∷ ss) arguments values =
-    length_after ss arguments (values_behind s arguments values) ∙ length_if (all_hold s.conds arguments values) (acted s.act values) values (length_acted s.act values)
+    length_after ss arguments (values_behind s arguments values) ∙ length_if (all_hold s.conds arguments values) (values_after_act s.act values) values (length_acted s.act values)
 
 -- ---- what keeps it
 
@@ -75,7 +75,7 @@ unmoved i budget v bank ticks k = fewer (places_of i) (length i.vars) (starts (b
 
 -- the statements of one
 pub works : (i : Placed) (budget : ℕ) (stmts : List Stmt) (at ticks : ℕ) (x : Bench) (v : Level) → length i.slots ≡ length i.vars → ArePlaces (places_of i) → AreStmtsOf i.vars stmts → length stmts ≤ 32
-    → Stands (body_of i.slots stmts) at x → ticks < budget → budget < 2 ^ 64 → Stand i budget v x.bank ticks → Stood i budget (behind stmts (arguments_of x.regs) v) (finished (body_of i.slots stmts) at x ticks) ticks
+    → Stands (body_of i.slots stmts) at x → ticks < budget → budget < 2 ^ 64 → Stand i budget v x.bank ticks → Stood i budget (behind stmts (arguments_of x.regs) v) (bank_at_end (body_of i.slots stmts) at x ticks) ticks
 works i budget stmts at ticks x v same pl u few st early low k =
     let spare = starts (budget - (ticks + 1)) in
     let l : length stmts + spare ≤ starts (budget - ticks) = omega arith in

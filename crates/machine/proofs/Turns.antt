@@ -6,7 +6,7 @@ use Rattle.std.proofs.lemmas.Bool.{true≢false, cases_lt, cond-false, and_from,
 use Rattle.std.proofs.lemmas.Grind.{common_steps}
 use Rattle.rv_word.specs.Names.{has_scratch}
 use Rattle.rv_word.specs.Registers.{reg, with_reg}
-use Rattle.rv_word.specs.Exec.{Prog, Outcome, Stops, Goes, done, exec_of, next}
+use Rattle.rv_word.specs.Exec.{Prog, Outcome, Stops, Goes, done_of_outcome, exec_of, next}
 use Rattle.rv_word.specs.Plain.{Words, PlainHart, program_word, may_go, after_done, hart_after}
 use Rattle.rv_word.specs.Plain as plain
 use Rattle.rv_word.specs.declared.outcome.Cause.{Cause}
@@ -80,7 +80,7 @@ module _ (t : Words) (g : Ground t) (budget : ℕ) (code : Code) (rows : List Ro
   -- ---- outside
 
   own_outcome : (w : ℕ) (a b : Outcome) → x.inside ≡ false → x.pc ≡ y.pc → Same a b
-      → Soon t budget ps clock None (own_step (done a x.regs) w (program_pc code rows x) x).hart (after_done (done b y.regs) y).hart × ((own_step (done a x.regs) w (program_pc code rows x) x).prog ≡ (after_done (done b y.regs) y).prog)
+      → Soon t budget ps clock None (own_step (done_of_outcome a x.regs) w (program_pc code rows x) x).hart (after_done (done_of_outcome b y.regs) y).hart × ((own_step (done_of_outcome a x.regs) w (program_pc code rows x) x).prog ≡ (after_done (done_of_outcome b y.regs) y).prog)
   own_outcome w (Stops c q) (Stops e r) i pc s =
       (downs None c (program_pc code rows x) _ (cond-false x.inside (home_of code rows x.pc) x.pc i ∙ pc) (ap (λ k. record { pc = y.pc; regs = y.regs; ticks = y.ticks + 1; stop = Some k }) (sym s.0)), s.1)
   own_outcome w (Stops c q) (Goes pc b r) i e s = absurd s
@@ -107,15 +107,15 @@ module _ (t : Words) (g : Ground t) (budget : ℕ) (code : Code) (rows : List Ro
       subst (λ q. Same (exec_of w x.pc h x.regs p) (exec_of w q h y.regs p)) e (execs w x.pc h x.regs y.regs p n (record { agree = a; first = d.first; second = d.second })) in
       let both = own_outcome w (exec_of w x.pc h x.regs p) (exec_of w y.pc h y.regs p) i e same in
       let to : (o : Option ℕ) → Type 0 = λ o.
-      Soon t budget ps clock None (own_step (done (exec_of w x.pc h x.regs p) x.regs) w (program_pc code rows x) x).hart (after_done (done (plain.fetched o h y p) y.regs) y).hart
-      × ((own_step (done (exec_of w x.pc h x.regs p) x.regs) w (program_pc code rows x) x).prog ≡ (after_done (done (plain.fetched o h y p) y.regs) y).prog) in
+      Soon t budget ps clock None (own_step (done_of_outcome (exec_of w x.pc h x.regs p) x.regs) w (program_pc code rows x) x).hart (after_done (done_of_outcome (plain.fetched o h y p) y.regs) y).hart
+      × ((own_step (done_of_outcome (exec_of w x.pc h x.regs p) x.regs) w (program_pc code rows x) x).prog ≡ (after_done (done_of_outcome (plain.fetched o h y p) y.regs) y).prog) in
       let k : to (program_word t y.pc) = subst to (sym f) both in (can_go l, k.0, k.1)
 
   none_outside : x.inside ≡ false → x.pc ≡ y.pc → x.ticks < budget → program_word t y.pc ≡ None → Owes None None
   none_outside i e l f =
       let to : (o : Option ℕ) → Type 0 = λ o.
-      Soon t budget ps clock None (ticked (stopped x (program_pc code rows x) FetchOutside)) (after_done (done (plain.fetched o h y p) y.regs) y).hart
-      × (p ≡ (after_done (done (plain.fetched o h y p) y.regs) y).prog) in
+      Soon t budget ps clock None (ticked (stopped x (program_pc code rows x) FetchOutside)) (after_done (done_of_outcome (plain.fetched o h y p) y.regs) y).hart
+      × (p ≡ (after_done (done_of_outcome (plain.fetched o h y p) y.regs) y).prog) in
       let k : to (program_word t y.pc) = subst to (sym f) (downs None FetchOutside (program_pc code rows x) _ (cond-false x.inside (home_of code rows x.pc) x.pc i ∙ e) refl, refl) in (can_go l, k.0, k.1)
 
   -- ---- words that are no ticks
@@ -249,7 +249,7 @@ module _ (t : Words) (g : Ground t) (budget : ℕ) (code : Code) (rows : List Ro
       )
 
   tick_outcome : (b : Piece) → In b ps → IsBase b → (b.row.status ≡ Written → ⊥) → x.inside ≡ true → (m : MovedWord t b) (w : ℕ) (jumped : Bool) (o u : Outcome) → program_pc code rows x ≡ y.pc → is_jump w ≡ jumped → SameStep jumped (own_place m.word) (moved_at b.row.at) m.moved o u
-      → Soon t budget ps clock (Some (b.row.len - 3 - own_place m.word)) (own_step (done o x.regs) w (program_pc code rows x) x).hart (after_done (done u y.regs) y).hart × ((own_step (done o x.regs) w (program_pc code rows x) x).prog ≡ (after_done (done u y.regs) y).prog)
+      → Soon t budget ps clock (Some (b.row.len - 3 - own_place m.word)) (own_step (done_of_outcome o x.regs) w (program_pc code rows x) x).hart (after_done (done_of_outcome u y.regs) y).hart × ((own_step (done_of_outcome o x.regs) w (program_pc code rows x) x).prog ≡ (after_done (done_of_outcome u y.regs) y).prog)
   tick_outcome b hb bs was i m w jumped (Stops c q) (Stops e r) home tj s = (downs (Some (b.row.len - 3 - own_place m.word)) c (program_pc code rows x) _ home (ap (λ k. record { pc = y.pc; regs = y.regs; ticks = y.ticks + 1; stop = Some k }) (sym s.0)), s.1)
   tick_outcome b hb bs was i m w jumped (Stops c q) (Goes pc a r) home tj s = absurd s
   tick_outcome b hb bs was i m w jumped (Goes pc a q) (Stops c r) home tj s = absurd s
@@ -261,10 +261,10 @@ module _ (t : Words) (g : Ground t) (budget : ℕ) (code : Code) (rows : List Ro
       let s = ticking t g budget code rows ps clock st h x y p d on b hb bs i k e in
       let w = s.0 in
       let both0 = tick_outcome b hb bs was i m w (is_jump m.word) (exec_of w x.pc h x.regs p) (exec_of m.word y.pc h y.regs p) s.2 s.3 s.5 in
-      let both = subst (λ j. Soon t budget ps clock (Some (b.row.len - 3 - j)) (own_step (done (exec_of w x.pc h x.regs p) x.regs) w (program_pc code rows x) x).hart (after_done (done (exec_of m.word y.pc h y.regs p) y.regs) y).hart × ((own_step (done (exec_of w x.pc h x.regs p) x.regs) w (program_pc code rows x) x).prog ≡ (after_done (done (exec_of m.word y.pc h y.regs p) y.regs) y).prog)) (sym e) both0 in
+      let both = subst (λ j. Soon t budget ps clock (Some (b.row.len - 3 - j)) (own_step (done_of_outcome (exec_of w x.pc h x.regs p) x.regs) w (program_pc code rows x) x).hart (after_done (done_of_outcome (exec_of m.word y.pc h y.regs p) y.regs) y).hart × ((own_step (done_of_outcome (exec_of w x.pc h x.regs p) x.regs) w (program_pc code rows x) x).prog ≡ (after_done (done_of_outcome (exec_of m.word y.pc h y.regs p) y.regs) y).prog)) (sym e) both0 in
       let to' : (o : Option ℕ) → Type 0 = λ o.
-      Soon t budget ps clock (Some (b.row.len - 3 - k.j)) (own_step (done (exec_of w x.pc h x.regs p) x.regs) w (program_pc code rows x) x).hart (after_done (done (plain.fetched o h y p) y.regs) y).hart
-      × ((own_step (done (exec_of w x.pc h x.regs p) x.regs) w (program_pc code rows x) x).prog ≡ (after_done (done (plain.fetched o h y p) y.regs) y).prog) in
+      Soon t budget ps clock (Some (b.row.len - 3 - k.j)) (own_step (done_of_outcome (exec_of w x.pc h x.regs p) x.regs) w (program_pc code rows x) x).hart (after_done (done_of_outcome (plain.fetched o h y p) y.regs) y).hart
+      × ((own_step (done_of_outcome (exec_of w x.pc h x.regs p) x.regs) w (program_pc code rows x) x).prog ≡ (after_done (done_of_outcome (plain.fetched o h y p) y.regs) y).prog) in
       let r : to' (program_word t y.pc) = subst to' (sym s.4) both in
       owes (Some (b.row.len - 3 - k.j)) (Some (own w)) s.1 (can_go k.before, r.0, r.1)
 

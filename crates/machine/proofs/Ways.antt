@@ -7,7 +7,7 @@ use Rattle.pn_types.specs.declared.placed.PlacedSite.{PlacedSite}
 use Rattle.pn_types.specs.declared.plan.Plan.{Plan}
 use Rattle.rv_word.specs.Plain.{Words, PlainHart}
 use Rattle.rv_word.specs.Registers.{arguments_of}
-use Rattle.tramp_spec.specs.Bodies.{Stands, finished}
+use Rattle.tramp_spec.specs.Bodies.{Stands, bank_at_end}
 use Rattle.tramp_spec.specs.Codes.{Code}
 use Rattle.tramp_spec.specs.Harts.{Hart, bench_of}
 use Rattle.tramp_spec.specs.Slots.{places_of}
@@ -50,20 +50,20 @@ module _ (i : Placed) (plan : Plan) (families ages : ℕ → ℕ) (t : Words) (c
   rests e bank ticks k = subst (λ w. Stood i budget w bank ticks) (sym (none_acts e)) (unmoved i budget v bank ticks k)
 
   -- a body that leaves the slots
-  spared : (m : Piece) → Spares i m.body → Stands m.body m.row.at (bench_of x) → SameSlots (places_of i) x.bank (finished m.body m.row.at (bench_of x) x.ticks)
+  spared : (m : Piece) → Spares i m.body → Stands m.body m.row.at (bench_of x) → SameSlots (places_of i) x.bank (bank_at_end m.body m.row.at (bench_of x) x.ticks)
   spared m s k q h = s q h m.row.at x.ticks (bench_of x) k
 
   past : (m : Piece) (w : Level) → Spares i m.body → Stands m.body m.row.at (bench_of x)
-      → (Stand i budget w x.bank x.ticks → Stand i budget w (finished m.body m.row.at (bench_of x) x.ticks) x.ticks)
-      × (Stood i budget w x.bank x.ticks → Stood i budget w (finished m.body m.row.at (bench_of x) x.ticks) x.ticks)
+      → (Stand i budget w x.bank x.ticks → Stand i budget w (bank_at_end m.body m.row.at (bench_of x) x.ticks) x.ticks)
+      × (Stood i budget w x.bank x.ticks → Stood i budget w (bank_at_end m.body m.row.at (bench_of x) x.ticks) x.ticks)
   past m w s k = (
-    same_told (places_of i) (length i.vars) (starts (budget - x.ticks)) w x.bank (finished m.body m.row.at (bench_of x) x.ticks) x.ticks (spared m s k),
-    same_told (places_of i) (length i.vars) (starts (budget - (x.ticks + 1))) w x.bank (finished m.body m.row.at (bench_of x) x.ticks) x.ticks (spared m s k),
+    same_told (places_of i) (length i.vars) (starts (budget - x.ticks)) w x.bank (bank_at_end m.body m.row.at (bench_of x) x.ticks) x.ticks (spared m s k),
+    same_told (places_of i) (length i.vars) (starts (budget - (x.ticks + 1))) w x.bank (bank_at_end m.body m.row.at (bench_of x) x.ticks) x.ticks (spared m s k),
   )
 
   -- the instrument's own
   own_works : (s : PlacedSite) (h : In s i.sites) (m : Piece) → m ≡ (mine s h).x → s.at ≡ y.pc → Stands m.body m.row.at (bench_of x) → x.ticks < budget → Saved x y → Stand i budget v x.bank x.ticks
-      → Stood i budget (acted plan y v) (finished m.body m.row.at (bench_of x) x.ticks) x.ticks
+      → Stood i budget (acted plan y v) (bank_at_end m.body m.row.at (bench_of x) x.ticks) x.ticks
   own_works s h m is e k low sv stand =
       let n = mine s h in
       let body : m.body ≡ body_of i.slots (n.site).stmts = ap (λ (u : Piece). u.body) is ∙ n.body in
@@ -71,8 +71,8 @@ module _ (i : Placed) (plan : Plan) (families ages : ℕ → ℕ) (t : Words) (c
       let f = rd.fits in
       let acts : acted plan y v ≡ behind (n.site).stmts (arguments_of x.regs) v =
       ap (λ o. record { values = site_values o (arguments_of y.regs) v.values; runs = v.runs }) here ∙ ap (λ a. behind (n.site).stmts a v) (sym (same_arguments x y sv)) in
-      subst (λ w. Stood i budget w (finished m.body m.row.at (bench_of x) x.ticks) x.ticks) (sym acts)
-      (subst (λ (b : List MarkedWord). Stood i budget (behind (n.site).stmts (arguments_of x.regs) v) (finished b m.row.at (bench_of x) x.ticks) x.ticks) (sym body)
+      subst (λ w. Stood i budget w (bank_at_end m.body m.row.at (bench_of x) x.ticks) x.ticks) (sym acts)
+      (subst (λ (b : List MarkedWord). Stood i budget (behind (n.site).stmts (arguments_of x.regs) v) (bank_at_end b m.row.at (bench_of x) x.ticks) x.ticks) (sym body)
       (works i budget (n.site).stmts m.row.at x.ticks (bench_of x) v f.many f.places (f.stmts y.pc n.site here) (f.few y.pc n.site here)
       (subst (λ (b : List MarkedWord). Stands b m.row.at (bench_of x)) body k) low cap stand))
 
@@ -97,7 +97,7 @@ module _ (i : Placed) (plan : Plan) (families ages : ℕ → ℕ) (t : Words) (c
   -- to a mini block: no live one of the family lies between
   pub onto_mini : (family n q : ℕ) (live : Bool) (l : Leads ps family n q live) (m : Piece) → In m ps → Linked m → m.family ≡ family → m.age ≡ l.lo → m.row.point ≡ y.pc
       → Stands m.body m.row.at (bench_of x) → x.ticks < budget → Saved x y → Way i plan families ages budget y v family n x.bank x.ticks
-      → Way i plan families ages budget y v m.family m.age (finished m.body m.row.at (bench_of x) x.ticks) x.ticks
+      → Way i plan families ages budget y v m.family m.age (bank_at_end m.body m.row.at (bench_of x) x.ticks) x.ticks
   onto_mini family n q live l m hm km ef ea ep k low sv way = record {
     none = λ e. (past m v (⊎_elim (λ (o : (r : PlacedSite) × In r i.sites × (r.at ≡ y.pc) × (r.mini ≡ m.row.at)). absurd (no_site o.0 o.1 o.2 e)) (λ z. z) (whose m hm km ep)) k).0 (way.none e);
     some = λ s h e.

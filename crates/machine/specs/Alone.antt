@@ -25,21 +25,21 @@ abbrev pub alone_of : Progress → Hart → Prog → Solo
 alone_of a x p = record { hart = record x { pc = a.pc; ticks = a.ticks; inside = a.inside }; prog = p }
 
 -- this many turns, each of which the hart could take, lead from the one to the other
-abbrev pub Leads : StoredCode → ℕ → ℕ → ℕ → Solo → Solo → Type 0
-Leads s budget h zero x z = z ≡ x
-Leads s budget h (suc k) x z = IsTrue (may_alone budget x) × Leads s budget h k (turned_alone s h x) z
+abbrev pub TurnsLead : StoredCode → ℕ → ℕ → ℕ → Solo → Solo → Type 0
+TurnsLead s budget h zero x z = z ≡ x
+TurnsLead s budget h (suc k) x z = IsTrue (may_alone budget x) × TurnsLead s budget h k (turned_alone s h x) z
 
 -- what is known of a hart that takes turns: where it stands, and that a tick is below the budget
-pub record IsPlaced (s : StoredCode) (budget : ℕ) (x : Solo) : Type 0 where
+pub record IsSoloPlaced (s : StoredCode) (budget : ℕ) (x : Solo) : Type 0 where
   pub tool : x.hart.inside ≡ true → is_tool_word s.program x.hart.pc ≡ true
   pub below : IsTrue (may_alone budget x) → is_tick (fetched_alone s x) ≡ true → x.hart.ticks < budget
 
 -- this holds wherever turns lead
 abbrev pub ArePlaced : StoredCode → ℕ → ℕ → Solo → Type 0
-ArePlaced s budget h x = (k : ℕ) (z : Solo) → Leads s budget h k x z → IsPlaced s budget z
+ArePlaced s budget h x = (k : ℕ) (z : Solo) → TurnsLead s budget h k x z → IsSoloPlaced s budget z
 
 -- the hart took this many turns, at most `most`, and could take no more where these are fewer
 pub record TakesAlone (s : StoredCode) (budget h most : ℕ) (x z : Solo) (turns : ℕ) : Type 0 where
-  pub leads : Leads s budget h turns x z
+  pub leads : TurnsLead s budget h turns x z
   pub bound : turns ≤ most
   pub full : (turns ≡ most) ⊎ (may_alone budget z ≡ false)

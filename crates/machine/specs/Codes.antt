@@ -24,23 +24,23 @@ hart_code =
     (λ _. refl)
 
 -- a status as a number
-abbrev pub number_of : Status → ℕ
-number_of Written = 0
-number_of Live = 1
-number_of Retired = 2
+abbrev pub status_number : Status → ℕ
+status_number Written = 0
+status_number Live = 1
+status_number Retired = 2
 
 abbrev pub status_at : ℕ → Status
 status_at zero = Written
 status_at (suc zero) = Live
 status_at (suc (suc n)) = Retired
 
-pub status_again : (s : Status) → status_at (number_of s) ≡ s
+pub status_again : (s : Status) → status_at (status_number s) ≡ s
 status_again Written = refl
 status_again Live = refl
 status_again Retired = refl
 
 abbrev pub status_code : Coded Status
-status_code = code_by ℕ coded_ℕ number_of status_at status_again
+status_code = code_by ℕ coded_ℕ status_number status_at status_again
 
 abbrev pub row_code : Coded Row
 row_code =

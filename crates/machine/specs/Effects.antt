@@ -43,8 +43,8 @@ is_kept p r = not ((r.point == p) && not (is_current r.status))
 
 -- ---- effects
 
-abbrev pub written : Block → Core → Core
-written b c = record c { code = put_words b.at b.words c.code; rows = c.rows ++ row_of b ∷ [] }
+abbrev pub with_block : Block → Core → Core
+with_block b c = record c { code = put_words b.at b.words c.code; rows = c.rows ++ row_of b ∷ [] }
 
 -- the base leads to the mini block, which is live
 abbrev pub mini_linked : Option Row → ℕ → Core → Core
@@ -74,20 +74,20 @@ abbrev pub armed_in : Memory → Placed → Hart → Hart
 armed_in m i x =
     record x { bank = set_places (places_of i) (opening i.opens (walk_from m (start_of x.stop x.pc x.regs)) i.vars) x.ticks x.bank }
 
-abbrev pub armed : Core → Placed → Hart → Hart
-armed c i x = armed_in c.prog.mem i x
+abbrev pub armed_hart : Core → Placed → Hart → Hart
+armed_hart c i x = armed_in c.prog.mem i x
 
 -- The machine after an event.
-abbrev pub after : Core → Event → Core
-after c (Turn h) = turn c h
-after c (Write block) = written block c
-after c (LinkMini p m) = mini_linked (current_base c.rows p) m c
-after c (UnlinkMini p m) = mini_unlinked (before c m) (row_at c.rows m) m c
-after c (LinkPoint p) = point_linked (current_base c.rows p) p c
-after c (UnlinkPoint p) = point_unlinked (program_word c.program p) p c
-after c (Free p) = record c { rows = filter (is_kept p) c.rows }
-after c (Arm i) = record c { harts = map (armed c i) c.harts }
-after c (Sample i) = c
+abbrev pub after_event : Core → Event → Core
+after_event c (Turn h) = turn c h
+after_event c (Write block) = with_block block c
+after_event c (LinkMini p m) = mini_linked (current_base c.rows p) m c
+after_event c (UnlinkMini p m) = mini_unlinked (before c m) (row_at c.rows m) m c
+after_event c (LinkPoint p) = point_linked (current_base c.rows p) p c
+after_event c (UnlinkPoint p) = point_unlinked (program_word c.program p) p c
+after_event c (Free p) = record c { rows = filter (is_kept p) c.rows }
+after_event c (Arm i) = record c { harts = map (armed_hart c i) c.harts }
+after_event c (Sample i) = c
 
 -- the harts whose ticks an event is: that of a turn which is one
 abbrev pub owned : Core → Event → List ℕ

@@ -18,7 +18,7 @@ use Rattle.tramp_spec.specs.Marks.{own, enter, tool}
 use Rattle.tramp_spec.specs.MovedWords.{moved_of, own_place}
 use Rattle.tramp_spec.specs.declared.mark.MarkedWord.{MarkedWord}
 use Rattle.machine.specs.Cores.{In, Row, Written, Live, Core, is_current, is_live, start_core}
-use Rattle.machine.specs.Effects.{after}
+use Rattle.machine.specs.Effects.{after_event}
 use Rattle.machine.specs.Events.{Event, LinkMini, Apart, current_base, next_of}
 use Rattle.machine.specs.Laws.{IsProgram}
 use Rattle.machine.specs.Places.{block_at}
@@ -27,9 +27,9 @@ use Rattle.machine.specs.Replays.{replay, Legal}
 -- ---- words
 
 -- these words stand at an address and after it
-abbrev pub Stands : Code → ℕ → List MarkedWord → Type 0
-Stands code at [] = Unit {0}
-Stands code at (w ∷ ws) = (get code at ≡ Some w) × Stands code (at + 4) ws
+abbrev pub AreWordsAt : Code → ℕ → List MarkedWord → Type 0
+AreWordsAt code at [] = Unit {0}
+AreWordsAt code at (w ∷ ws) = (get code at ≡ Some w) × AreWordsAt code (at + 4) ws
 
 -- a word is a jump that keeps no address, from one address to another
 pub record IsJump (from to word : ℕ) : Type 0 where
@@ -48,7 +48,7 @@ pub record IsBaseBlock (c : Core) (r : Row) : Type 0 where
   pub len : r.len ≡ 3 + length moved
   pub head : ℕ
   pub leads : IsJump (r.at + 4) (next_of c.code r) head
-  pub stands : Stands c.code r.at (tool (word_of (Store Sd 0 5 8)) ∷ tool head ∷ tool (word_of (Load Ld 5 0 8)) ∷ moved)
+  pub stands : AreWordsAt c.code r.at (tool (word_of (Store Sd 0 5 8)) ∷ tool head ∷ tool (word_of (Load Ld 5 0 8)) ∷ moved)
 
 -- The words of a mini block are a harmless body and a jump.
 pub record IsMiniBlock (c : Core) (r : Row) : Type 0 where
@@ -57,7 +57,7 @@ pub record IsMiniBlock (c : Core) (r : Row) : Type 0 where
   pub len : r.len ≡ length body + 1
   pub jump : ℕ
   pub leads : IsJump (r.at + 4 * length body) (next_of c.code r) jump
-  pub stands : Stands c.code r.at (body ++ tool jump ∷ [])
+  pub stands : AreWordsAt c.code r.at (body ++ tool jump ∷ [])
 
 -- A block has its shape, at a multiple of 4 in tool text.
 pub record IsBlock (c : Core) (r : Row) : Type 0 where
@@ -113,7 +113,7 @@ linkings_after c e l = l
 -- The linkings after these events.
 abbrev pub linkings : List Event → Core → Linkings → Linkings
 linkings [] c l = l
-linkings (e ∷ es) c l = linkings es (after c e) (linkings_after c e l)
+linkings (e ∷ es) c l = linkings es (after_event c e) (linkings_after c e l)
 
 -- a mini block that was linked under a base block
 pub record IsUnder (l : Linkings) (base : ℕ) (r : Row) : Type 0 where
@@ -169,7 +169,7 @@ pub record IsInside (c : Core) (x : Hart) : Type 0 where
 -- ---- together
 
 -- All this holds of a state after these linkings.
-pub record IsKept (l : Linkings) (c : Core) : Type 0 where
+pub record IsInvariant (l : Linkings) (c : Core) : Type 0 where
   pub blocks : (r : Row) → In r c.rows → IsBlock c r
   pub apart : (r s : Row) → In r c.rows → In s c.rows → (r ≡ s) ⊎ Apart r.at r.len s.at s.len
   pub bases : (b d : Row) → In b c.rows → In d c.rows → b.base ≡ true → d.base ≡ true → b.point ≡ d.point → is_current b.status ≡ true
@@ -186,7 +186,7 @@ pub record IsKept (l : Linkings) (c : Core) : Type 0 where
   pub harts : (h : ℕ) (x : Hart) → slice_get c.harts h ≡ Some x → x.inside ≡ true → IsInside c x
 
 -- This holds after every list of events each of which may happen when it comes.
-abbrev pub Keeps : Type 0
-Keeps =
+abbrev pub KeepsAlways : Type 0
+KeepsAlways =
     (image : Image) (n budget : ℕ) (es : List Event) → IsProgram image → Legal es (start_core image n budget)
-    → IsKept (linkings es (start_core image n budget) no_linkings) (replay es (start_core image n budget))
+    → IsInvariant (linkings es (start_core image n budget) no_linkings) (replay es (start_core image n budget))

@@ -9,8 +9,8 @@ use Rattle.machine.specs.Effects.{is_kept}
 use Rattle.machine.specs.Events.{link_at}
 
 -- the words of a block are words of the tool text
-abbrev pub IsWithin : Words → Row → Type 0
-IsWithin program r = IsInToolText program r.at r.len
+abbrev pub IsInText : Words → Row → Type 0
+IsInText program r = IsInToolText program r.at r.len
 
 -- the word that leads from a block to the next is one of them
 pub record HasLink (program : Words) (r : Row) : Type 0 where

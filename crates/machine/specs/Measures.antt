@@ -31,12 +31,12 @@ abbrev pub counted : List ℕ → ℕ → Level
 counted values runs = record { values = values; runs = if slice_index values 0 == 0 then runs else runs + 1 }
 
 -- after a position of the hart
-abbrev pub passed : Plan → PlainHart → Level → Level
-passed plan x v = counted (site_values (site_at plan x.pc) (arguments_of x.regs) v.values) v.runs
+abbrev pub level_after : Plan → PlainHart → Level → Level
+level_after plan x v = counted (site_values (site_at plan x.pc) (arguments_of x.regs) v.values) v.runs
 
 abbrev pub passed_by : Option PlainHart → Plan → Level → Level
 passed_by None plan v = v
-passed_by (Some x) plan v = passed plan x v
+passed_by (Some x) plan v = level_after plan x v
 
 -- hart h's level after these turns, from a state and its level there
 abbrev pub level : Words → Plan → ℕ → List ℕ → Plain → Level → Level
@@ -44,13 +44,13 @@ level t plan h [] s v = v
 level t plan h (g ∷ turns) s v = level t plan h turns (plain t g s) (if g == h then passed_by (slice_get s.harts h) plan v else v)
 
 -- before any position: with the opening values of the variables
-abbrev pub opened : Plan → Plain → ℕ → Level
-opened plan s h = record { values = opening plan.opens (walk s h) plan.vars; runs = 0 }
+abbrev pub opening_level : Plan → Plain → ℕ → Level
+opening_level plan s h = record { values = opening plan.opens (walk s h) plan.vars; runs = 0 }
 
 -- Hart h's level after its positions from time a to time k.
 abbrev pub level_at : Words → Plan → ℕ → ℕ → ℕ → List ℕ → Plain → Level
 level_at t plan h a k turns s =
-    level t plan h (drop a (take k turns)) (run_from t (take a turns) s) (opened plan (run_from t (take a turns) s) h)
+    level t plan h (drop a (take k turns)) (run_from t (take a turns) s) (opening_level plan (run_from t (take a turns) s) h)
 
 -- ---- measures
 

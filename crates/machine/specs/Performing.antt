@@ -1,7 +1,7 @@
 -- For proofs alone: what a hart's operation leaves, of which its turn is made.
 use Rattle.std.specs.Prelude.{◌≡◌, ℕ, ◌⊎◌, if◌then◌else◌, Bool, Option, Some, None, Result, Ok, Err, List}
 use Rattle.std.specs.FinMap.{get}
-use Rattle.rv_word.specs.Exec.{Prog, done, exec_of}
+use Rattle.rv_word.specs.Exec.{Prog, done_of_outcome, exec_of}
 use Rattle.rv_word.specs.declared.outcome.Cause.{Cause}
 use Rattle.rv_exec.specs.Gives.{next_after}
 use Rattle.tramp_spec.specs.Banks.{reach_of}
@@ -28,7 +28,7 @@ bench_in x = bench_from x.regs x.bank
 
 -- a word of the program makes `z` of `x`
 pub record PerformsOwn (word h : ℕ) (x z : Solo) : Type 0 where
-  pub does : done (exec_of word x.hart.pc h x.hart.regs x.prog) x.hart.regs
+  pub does : done_of_outcome (exec_of word x.hart.pc h x.hart.regs x.prog) x.hart.regs
       ≡ record { next = next_after z.hart.stop z.hart.pc; regs = z.hart.regs; prog = z.prog }
   pub keeps : z.hart.bank ≡ x.hart.bank
 

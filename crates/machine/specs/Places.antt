@@ -64,5 +64,5 @@ abbrev pub rebuilding_of : Words → List Row → Hart → Option ℕ
 rebuilding_of program rows x = if x.inside then rebuilding_in (block_at rows x.pc) program x.pc else None
 
 -- register r of the hart, as the program has it
-abbrev pub seen : List Row → Hart → ℕ → ℕ
-seen rows x r = if has_saved rows x && (r == 5) then saved_x5 x.bank else reg x.regs r
+abbrev pub program_register : List Row → Hart → ℕ → ℕ
+program_register rows x r = if has_saved rows x && (r == 5) then saved_x5 x.bank else reg x.regs r

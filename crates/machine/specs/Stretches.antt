@@ -1,6 +1,6 @@
 -- For proofs alone: words of the program's text that a hart outside runs one after another.
 use Rattle.std.specs.Prelude.{◌≡◌, ℕ, zero, suc, false, Option, Some, None, List}
-use Rattle.rv_word.specs.Exec.{Prog, Done, done, exec_decoded}
+use Rattle.rv_word.specs.Exec.{Prog, Done, done_of_outcome, exec_decoded}
 use Rattle.rv_word.specs.Table.{decode_of}
 use Rattle.rv_word.specs.declared.instr.Instr.{Instr}
 use Rattle.rv_word.specs.declared.outcome.Cause.{Cause}
@@ -27,7 +27,7 @@ left_as d at = left_by d.next at d.regs d.prog
 
 -- hart h runs an instruction; where it stops, it stands where it stood
 abbrev pub ran : ℕ → Option Instr → ℕ → List ℕ → Prog → Left
-ran h i pc regs p = left_as (done (exec_decoded i pc h regs p) regs) pc
+ran h i pc regs p = left_as (done_of_outcome (exec_decoded i pc h regs p) regs) pc
 
 -- the instruction of a word of the program
 abbrev pub HasOwn : Option MarkedWord → (Option Instr → Type 0) → Type 0

@@ -28,7 +28,7 @@ core_of harts prog store rows budget =
     record { program = store.program; budget = budget; harts = harts; prog = prog; code = store.code; rows = rows }
 
 -- the parts of a machine fit each other
-pub record IsSound (harts : List Hart) (prog : Prog) (store : StoredCode) (rows : List Row) (budget : ℕ) : Type 0 where
+pub record AreMachineParts (harts : List Hart) (prog : Prog) (store : StoredCode) (rows : List Row) (budget : ℕ) : Type 0 where
   pub reached : IsReached (core_of harts prog store rows budget)
   pub owners : AreOwners store.owners rows
   pub reservations : length prog.resv ≡ length harts

@@ -3,12 +3,12 @@
 ghost use Rattle.std.specs.Prelude.{◌≡◌, ◌+◌, ◌-◌, ◌*◌, ◌^◌, ◌<◌, ◌≤◌, ◌&&◌, ◌==◌, [], ◌∷◌, ◌++◌, find, filter, map, length, max, IfOk, IsTrue, OnErr, OnOk};
 ghost use Rattle.std.specs.Option.{option_map};
 ghost use Rattle.pn_types.specs.declared.limits.TheConstants.{TOOL_TEXT_LEN};
-ghost use Rattle.bucket_chains.specs.Left.{buckets_of, left};
+ghost use Rattle.bucket_chains.specs.Left.{buckets_of, present_entries};
 ghost use Rattle.machine.specs.Cores.{In, Row};
 ghost use Rattle.machine.specs.Effects.{at_set, is_kept, retired_at, with_status};
 ghost use Rattle.machine.specs.Events.{current_base, is_before, row_at};
 ghost use Rattle.machine.specs.LinkedSites.{is_live_mini};
-ghost use Rattle.machine.specs.Links.{HasLink, IsWithin, owners_left};
+ghost use Rattle.machine.specs.Links.{HasLink, IsInText, owners_left};
 ghost use Rattle.machine.specs.States.{words_in};
 ghost use Rattle.machine.specs.Views.{row_of, status_of};
 
@@ -33,12 +33,12 @@ pub struct Blocks {
 
 impl Model for Blocks {
     ghost use Rattle.std.specs.Prelude.{◌≡◌, ◌+◌, ◌≤◌, length, map, vec_capacity};
-    ghost use Rattle.bucket_chains.specs.Left.{buckets_of, left};
+    ghost use Rattle.bucket_chains.specs.Left.{buckets_of, present_entries};
     ghost use Rattle.machine.specs.Views.{BlockList, row_of};
 
     ghost Value = { BlockList };
 
-    ghost view = { λ b. record { rows = map row_of (left b.rows.items); room = b.room } };
+    ghost view = { λ b. record { rows = map row_of (present_entries b.rows.items); room = b.room } };
 
     ghost invariant = { λ b.
         (b.places.buckets ≡ buckets_of (λ r. r.point) b.rows.items)
@@ -60,8 +60,8 @@ impl Drop for Blocks {
 
 /// How many words the blocks have.
 fn words_of(rows: &[Option<BlockRow>]) -> u32
-    requires { 4 * words_in (map row_of (left rows.now)) ≤ TOOL_TEXT_LEN }
-    ensures { result ≡ words_in (map row_of (left rows.now)) }
+    requires { 4 * words_in (map row_of (present_entries rows.now)) ≤ TOOL_TEXT_LEN }
+    ensures { result ≡ words_in (map row_of (present_entries rows.now)) }
 {
     let mut words = 0;
     for row in rows {
@@ -248,7 +248,7 @@ impl Blocks {
 
     /// Removes the retired blocks of a point. Their words belong to no block any more.
     pub fn remove_retired(&mut self, point: u64, store: &mut Store)
-        requires { (r : Row) → In r self.old.rows → IsWithin store.old.program r }
+        requires { (r : Row) → In r self.old.rows → IsInText store.old.program r }
         ensures rows { self.new ≡ record self.old { rows = filter (is_kept point) self.old.rows } }
         ensures store { store.new ≡ record store.old { owners = owners_left point self.old.rows store.old.owners } }
     {

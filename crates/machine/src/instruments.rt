@@ -4,7 +4,7 @@ ghost use Rattle.std.specs.Prelude.{◌≡◌, ◌↔◌, if◌then◌else◌, f
 ghost use Rattle.std.specs.List.{AllByRecursion, list_all};
 ghost use Rattle.tramp_spec.specs.Codes.{fetched_at};
 ghost use Rattle.frame_walk.specs.Rooms.{IsSmall};
-ghost use Rattle.machine.specs.Effects.{after, armed_in};
+ghost use Rattle.machine.specs.Effects.{after_event, armed_in};
 ghost use Rattle.machine.specs.Events.{Arm, IsQuiet, May, MayArm};
 ghost use Rattle.machine.specs.Instruments.{reading};
 ghost use Rattle.machine.specs.LinkedSites.{enters, is_site_linked};
@@ -49,7 +49,7 @@ impl Machine {
     pub fn arm(&mut self, instrument: &Placed) -> bool
         requires small { AllByRecursion IsSmall instrument.now.opens }
         ensures may { IsTrue result ↔ May self.old.core (Arm instrument.now) }
-        ensures state { self.new ≡ if result then with_core self.old (after self.old.core (Arm instrument.now)) else self.old }
+        ensures state { self.new ≡ if result then with_core self.old (after_event self.old.core (Arm instrument.now)) else self.old }
     {
         if !self.may_arm(instrument) {
             return false;

@@ -1,6 +1,6 @@
 //! What holds of the definitions.
 
-ghost use Rattle.machine.specs.Kept.{Keeps};
+ghost use Rattle.machine.specs.Kept.{KeepsAlways};
 ghost use Rattle.machine.specs.Leaving.{LeavesSoon};
 ghost use Rattle.machine.specs.Laws.{Erasure, ReplaysGoOn};
 ghost use Rattle.machine.specs.Measures.{LevelsGoOn, MeasuresAdd};
@@ -22,7 +22,7 @@ pub fn erasure()
 /// mini blocks of the same base block and each one that is live, to its tail; and a hart inside stands in such a block, isn't
 /// stopped, and can still take the tick of the program's word.
 pub fn kept()
-    ensures { Keeps }
+    ensures { KeepsAlways }
 {}
 
 /// Readings. Take any list of events each of which may happen when it comes, and an instrument that is armed in its course, carries

@@ -6,7 +6,7 @@ ghost use Rattle.pn_types.specs.Images.{IsImage, text_of};
 ghost use Rattle.rv_word.specs.Names.{scratch_in, words_of};
 ghost use Rattle.rv_exec.specs.Start.{harts_from};
 ghost use Rattle.machine.specs.Cores.{first_hart, start_core};
-ghost use Rattle.machine.specs.Effects.{after};
+ghost use Rattle.machine.specs.Effects.{after_event};
 ghost use Rattle.machine.specs.Events.{AreOutside, IsQuiet, Turn};
 ghost use Rattle.machine.specs.Places.{program_pc};
 ghost use Rattle.machine.specs.States.{with_core};
@@ -36,7 +36,7 @@ impl Model for Machine {
     ghost use Rattle.rv_exec.specs.Shared.{prog_in};
     ghost use Rattle.machine.specs.Codes.{machine_code};
     ghost use Rattle.machine.specs.States.{Machine};
-    ghost use Rattle.machine.specs.Views.{IsSound, core_of};
+    ghost use Rattle.machine.specs.Views.{AreMachineParts, core_of};
 
     ghost Value = { Machine };
 
@@ -47,7 +47,7 @@ impl Model for Machine {
       room = m.blocks.room;
     } };
 
-    ghost invariant = { λ m. IsSound m.harts.items (prog_in m.shared) m.store m.blocks.rows m.budget };
+    ghost invariant = { λ m. AreMachineParts m.harts.items (prog_in m.shared) m.store m.blocks.rows m.budget };
 }
 
 // By a call of its own: what drops it need not prove the drops of all its parts.
@@ -166,7 +166,7 @@ impl Machine {
     pub fn turn(&mut self, hart: HartNo) -> bool
         requires hart { hart < length self.old.core.harts }
         requires runnable { IsTrue (is_runnable self.old.core hart) }
-        ensures turned { self.new ≡ with_core self.old (after self.old.core (Turn hart)) }
+        ensures turned { self.new ≡ with_core self.old (after_event self.old.core (Turn hart)) }
         ensures tick { result ≡ ticks_next self.old.core hart }
         ensures harts { length self.new.core.harts ≡ length self.old.core.harts }
     {

@@ -3,7 +3,7 @@
 ghost use Rattle.std.specs.Prelude.{◌≡◌, ◌↔◌, ◌-◌, ◌<◌, ◌&&◌, if◌then◌else◌, max, IfSome, IsSome, IsTrue, OnErr, OnOk, length};
 ghost use Rattle.std.specs.List.{list_any};
 ghost use Rattle.machine.specs.Cores.{Live};
-ghost use Rattle.machine.specs.Effects.{after, lead_to};
+ghost use Rattle.machine.specs.Effects.{after_event, lead_to};
 ghost use Rattle.machine.specs.Events.{Free, HasMini, IsEntered, LinkMini, LinkPoint, May, MayLinkMini, MayLinkPoint, MayWrite, UnlinkMini, UnlinkPoint, Write, current_base, next_of};
 ghost use Rattle.machine.specs.Links.{HasLink, is_of};
 ghost use Rattle.machine.specs.Reached.{owner_by};
@@ -45,7 +45,7 @@ impl Machine {
     pub fn write(&mut self, block: &Block)
         requires may { MayWrite self.old.core block.now }
         requires room { 0 < self.old.room }
-        ensures { self.new ≡ record { core = after self.old.core (Write block.now); room = self.old.room - 1 } }
+        ensures { self.new ≡ record { core = after_event self.old.core (Write block.now); room = self.old.room - 1 } }
     {
         self.store.put_block(block);
         self.blocks.push(BlockRow {
@@ -61,7 +61,7 @@ impl Machine {
     /// be there and not be retired, leads to it. The mini block must lead to where that head has led.
     pub fn link_mini(&mut self, point: u64, at: u64)
         requires { MayLinkMini self.old.core point at }
-        ensures { self.new ≡ with_core self.old (after self.old.core (LinkMini point at)) }
+        ensures { self.new ≡ with_core self.old (after_event self.old.core (LinkMini point at)) }
     {
         if let Some(base) = self.blocks.current_base(point) {
             lead_to(&mut self.store, &base, at);
@@ -73,7 +73,7 @@ impl Machine {
     /// go on.
     pub fn unlink_mini(&mut self, point: u64, at: u64)
         requires { HasMini self.old.core point at Live }
-        ensures { self.new ≡ with_core self.old (after self.old.core (UnlinkMini point at)) }
+        ensures { self.new ≡ with_core self.old (after_event self.old.core (UnlinkMini point at)) }
     {
         if let Some(holder) = self.blocks.before(&self.store, point, at) {
             if let Some(mini) = self.blocks.row_at(point, at) {
@@ -88,7 +88,7 @@ impl Machine {
     /// must be there and not be retired, is live.
     pub fn link_point(&mut self, point: u64)
         requires { MayLinkPoint self.old.core point }
-        ensures { self.new ≡ with_core self.old (after self.old.core (LinkPoint point)) }
+        ensures { self.new ≡ with_core self.old (after_event self.old.core (LinkPoint point)) }
     {
         if let Some(base) = self.blocks.current_base(point) {
             self.store
@@ -101,7 +101,7 @@ impl Machine {
     /// the point's live mini blocks are retired. Harts that are in them go on.
     pub fn unlink_point(&mut self, point: u64)
         requires { IsEntered self.old.core point }
-        ensures { self.new ≡ with_core self.old (after self.old.core (UnlinkPoint point)) }
+        ensures { self.new ≡ with_core self.old (after_event self.old.core (UnlinkPoint point)) }
     {
         if let Some(word) = self.store.program_word(point) {
             self.store.set_word(point, MarkedWord::own(word));
@@ -113,7 +113,7 @@ impl Machine {
     /// a block of the point; else nothing changes. The room for more blocks stays as it is.
     pub fn free(&mut self, point: u64) -> bool
         ensures may { IsTrue result ↔ May self.old.core (Free point) }
-        ensures state { self.new ≡ if result then with_core self.old (after self.old.core (Free point)) else self.old }
+        ensures state { self.new ≡ if result then with_core self.old (after_event self.old.core (Free point)) else self.old }
     {
         if self.has_hart_at(point) {
             return false;

@@ -4,7 +4,7 @@ ghost use Rattle.std.specs.Prelude.{◌≡◌, ◌+◌, ◌<◌, ◌≤◌, ◌^
 ghost use Rattle.rv_exec.specs.Shared.{prog_in};
 ghost use Rattle.tramp_spec.specs.Codes.{fetched_at, is_tool_word};
 ghost use Rattle.tramp_spec.specs.Harts.{is_tick};
-ghost use Rattle.machine.specs.Alone.{ArePlaced, Leads, TakesAlone, alone_of, may_alone, turned_alone};
+ghost use Rattle.machine.specs.Alone.{ArePlaced, TurnsLead, TakesAlone, alone_of, may_alone, turned_alone};
 ghost use Rattle.machine.specs.Performing.{solo_of};
 
 use crate::hart::{HartState, home};
@@ -85,7 +85,7 @@ fn take_words(
 ) -> u32
     requires number { number < length shared.old.resv }
     requires may { IsTrue (may_alone budget (alone_of progress.old hart.old (prog_in shared.old))) }
-    ensures leads { Leads store.now budget number result
+    ensures leads { TurnsLead store.now budget number result
         (alone_of progress.old hart.old (prog_in shared.old)) (alone_of progress.new hart.new (prog_in shared.new)) }
     ensures bound { result ≤ most }
     ensures harts { length shared.new.resv ≡ length shared.old.resv }
@@ -124,7 +124,7 @@ fn take_some(
     requires most { 1 ≤ most }
     requires may { IsTrue (may_alone budget (alone_of progress.old hart.old (prog_in shared.old))) }
     requires placed { ArePlaced store.now budget number (alone_of progress.old hart.old (prog_in shared.old)) }
-    ensures leads { Leads store.now budget number result
+    ensures leads { TurnsLead store.now budget number result
         (alone_of progress.old hart.old (prog_in shared.old)) (alone_of progress.new hart.new (prog_in shared.new)) }
     ensures bound { (1 ≤ result) × (result ≤ most) }
     ensures harts { length shared.new.resv ≡ length shared.old.resv }

@@ -12,8 +12,8 @@ use Rattle.mdl_ast.specs.declared.items.Item.TheVariants.{Include, Sync, Metric,
 use Rattle.mdl_check.specs.Placed.{Entry}
 use Rattle.resource_tree.specs.SameNodes.{is_same_code, is_same_number}
 use Rattle.mdl_check.specs.Rules.{is_shown_by, is_same_focus}
-use Rattle.mdl_check.specs.Sights.{sight, is_same_sight, AreShown, IsFirstSight}
-use Rattle.mdl_check.specs.declared.sight.Sight.{Sight}
+use Rattle.mdl_check.specs.Sights.{metric_focus, is_same_sight, AreShown, IsFirstMetricFocus}
+use Rattle.mdl_check.specs.declared.sight.MetricFocus.{MetricFocus}
 use denote.Ref.{Bor}
 
 any_more : (p : Entry → Bool) (es : List Entry) (e : Entry) → list_any p (es ++ e ∷ []) ≡ (list_any p es || p e)
@@ -49,7 +49,7 @@ some_either None (Some n) = refl
 some_either (Some m) None = refl
 some_either (Some m) (Some n) = number_either m n
 
-pub same_sight : (a m : Bor (List ℕ)) (f g : Focus) → (bytes_eq a.now m.now && is_same_focus (Some f) (Some g)) ≡ is_same_sight (sight m g) (sight a f)
+pub same_sight : (a m : Bor (List ℕ)) (f g : Focus) → (bytes_eq a.now m.now && is_same_focus (Some f) (Some g)) ≡ is_same_sight (metric_focus m g) (metric_focus a f)
 same_sight a m f g =
     ap (λ (b : Bool). b && is_same_focus (Some f) (Some g)) (name_either a.now m.now)
     ∙ ap (λ (b : Bool). bytes_eq m.now a.now && b) (and_assoc (is_same_code f.code g.code) (is_same_number f.hart g.hart) (is_same_number f.object g.object)
@@ -57,7 +57,7 @@ same_sight a m f g =
     ∙ ap (λ (b : Bool). is_same_code g.code f.code && (b && is_same_number f.object g.object)) (some_either f.hart g.hart)
     ∙ ap (λ (b : Bool). is_same_code g.code f.code && (is_same_number g.hart f.hart && b)) (some_either f.object g.object))
 
-pub none_more : (es : List Entry) (e : Entry) (shown : List Sight) → IsFirstSight e.item e.focus None → AreShown es shown → AreShown (es ++ e ∷ []) shown
+pub none_more : (es : List Entry) (e : Entry) (shown : List MetricFocus) → IsFirstMetricFocus e.item e.focus None → AreShown es shown → AreShown (es ++ e ∷ []) shown
 none_more es e shown none h metric f =
     h metric f
     ∙ sym (or-false (list_any (λ e. is_shown_by metric.now (Some f) e.item e.focus) es))
@@ -69,12 +69,12 @@ one_way true true = refl
 one_way true false = refl
 one_way false b = sym (or-false b)
 
-pub one_more_sight : (es : List Entry) (e : Entry) (s : Sight) (old new : List Sight) → IsFirstSight e.item e.focus (Some s) → AreShown es old →
-    ((q : Sight) → list_any (is_same_sight q) new ≡ cond (is_same_sight s q) true (list_any (is_same_sight q) old)) → AreShown (es ++ e ∷ []) new
+pub one_more_sight : (es : List Entry) (e : Entry) (s : MetricFocus) (old new : List MetricFocus) → IsFirstMetricFocus e.item e.focus (Some s) → AreShown es old →
+    ((q : MetricFocus) → list_any (is_same_sight q) new ≡ cond (is_same_sight s q) true (list_any (is_same_sight q) old)) → AreShown (es ++ e ∷ []) new
 one_more_sight es e s old new first h put metric f =
-    put (sight metric f)
-    ∙ ap (cond (is_same_sight s (sight metric f)) true) (h metric f)
-    ∙ one_way (is_same_sight s (sight metric f)) (list_any (λ e. is_shown_by metric.now (Some f) e.item e.focus) es)
+    put (metric_focus metric f)
+    ∙ ap (cond (is_same_sight s (metric_focus metric f)) true) (h metric f)
+    ∙ one_way (is_same_sight s (metric_focus metric f)) (list_any (λ e. is_shown_by metric.now (Some f) e.item e.focus) es)
     ∙ ap (λ (b : Bool). list_any (λ e. is_shown_by metric.now (Some f) e.item e.focus) es || b) (sym (first metric f))
     ∙ sym (any_more (λ e. is_shown_by metric.now (Some f) e.item e.focus) es e)
 

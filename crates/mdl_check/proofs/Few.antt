@@ -4,14 +4,14 @@ use Rattle.std.specs.List.{filter}
 use Rattle.std.proofs.lemmas.List.{length-append}
 use Rattle.mdl_ast.specs.declared.items.Item.{Item}
 use Rattle.mdl_ast.specs.declared.items.Item.TheVariants.{Include, Sync, Metric, Constraint, Hypothesis, Search, Phase, Wish}
-use Rattle.mdl_check.specs.Placed.{placed, is_taken, included, with_included, placed_items}
+use Rattle.mdl_check.specs.Placed.{placed_item, is_taken, included, with_included, placed_items}
 
 -- an include takes no more than there are
-taken_few : (line : ℕ) (metrics : Bool) (shipped : List Item) → length (map (placed line) (filter (is_taken metrics) shipped)) ≤ length shipped
+taken_few : (line : ℕ) (metrics : Bool) (shipped : List Item) → length (map (placed_item line) (filter (is_taken metrics) shipped)) ≤ length shipped
 taken_few line metrics [] = omega arith
 taken_few line metrics (i ∷ shipped) = go (is_taken metrics i) (filter (is_taken metrics) shipped) (taken_few line metrics shipped)
   where
-    go : (b : Bool) (rest : List Item) → length (map (placed line) rest) ≤ length shipped → length (map (placed line) (cond b (i ∷ rest) rest)) ≤ length (i ∷ shipped)
+    go : (b : Bool) (rest : List Item) → length (map (placed_item line) rest) ≤ length shipped → length (map (placed_item line) (cond b (i ∷ rest) rest)) ≤ length (i ∷ shipped)
     go true rest few = omega (arith, few)
     go false rest few = omega (arith, few)
 

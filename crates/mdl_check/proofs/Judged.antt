@@ -6,9 +6,9 @@ use Rattle.mdl_ast.specs.Small.{HasSmall}
 use Rattle.mdl_ast.specs.declared.items.Item.{Item}
 use Rattle.resource_tree.specs.Resources.{Resources}
 use Rattle.mdl_check.specs.Placed.{Entry, placed_items}
-use Rattle.mdl_check.specs.Checking.{AreEntries, IsAnswer, Refuses}
+use Rattle.mdl_check.specs.Checking.{AreEntries, IsAnswer, CheckRefuses}
 use Rattle.mdl_check.specs.Judged.{IsJudged}
-use Rattle.mdl_check.specs.Sound.{IsSound}
+use Rattle.mdl_check.specs.Sound.{IsSoundCheck}
 use Rattle.mdl_check.specs.declared.checked.Checked.{Checked}
 use Rattle.mdl_check.specs.declared.fault.CheckError.{CheckError}
 use Rattle.mdl_check.specs.declared.fault.CheckError.TheVariants.{NoMemory, Fault}
@@ -21,7 +21,7 @@ answered t shipped items es (Ok checked) are h = (es, are, h.0, h.1)
 answered t shipped items es (Err e) are h = tt
 
 pub refused : (t : Resources) (shipped items : List Item) (es : List Entry) (r : Result Checked CheckError) → AreEntries t (placed_items shipped items) es → IsJudged es r
-    → IfErr r (λ e. Refuses e (λ fault. IsAnswer t shipped items (Err fault)))
+    → IfErr r (λ e. CheckRefuses e (λ fault. IsAnswer t shipped items (Err fault)))
 refused t shipped items es (Ok checked) are h = tt
 refused t shipped items es (Err NoMemory) are h = tt
 refused t shipped items es (Err (Fault fault)) are h = (es, are, h)
@@ -31,6 +31,6 @@ metrics_few es (Ok checked) few h = omega (arith, ap (λ (k : Checked). length k
 metrics_few es (Err fault) few h = tt
 
 pub judged_sound : (t : Resources) (shipped items : List Item) (es : List Entry) (r : Result Checked CheckError) → AreEntries t (placed_items shipped items) es → IsJudged es r
-    → AllByRecursion HasSmall shipped → AllByRecursion HasSmall items → IfOk r IsSound
-judged_sound t shipped items es (Ok checked) are h small own = subst IsSound (sym h.1) (sound t shipped items es are h.0 small own)
+    → AllByRecursion HasSmall shipped → AllByRecursion HasSmall items → IfOk r IsSoundCheck
+judged_sound t shipped items es (Ok checked) are h small own = subst IsSoundCheck (sym h.1) (sound t shipped items es are h.0 small own)
 judged_sound t shipped items es (Err fault) are h small own = tt

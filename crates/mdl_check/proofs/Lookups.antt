@@ -9,7 +9,7 @@ use Rattle.first_places.proofs.Somewhere.{stands_somewhere}
 use Rattle.mdl_ast.specs.declared.items.Item.{Item}
 use Rattle.mdl_ast.specs.declared.metric.Constraint.{Constraint as TheConstraint}
 use Rattle.mdl_check.specs.Placed.{Entry}
-use Rattle.mdl_check.specs.Names.{hypothesis_name, is_named, metric_name, number_from, metric_number, as_constraint, constraint_named, constraints_in, hypothesis_place, stands}
+use Rattle.mdl_check.specs.Names.{hypothesis_name, is_named, metric_name, number_from, metric_number, as_constraint, constraint_named, constraints_in, hypothesis_place, has_name}
 use Rattle.mdl_check.specs.Indexes.{names_in, metric_names, constraint_names, places_from}
 
 -- ---- the first of a name
@@ -117,16 +117,16 @@ hypothesis_is name es =
 
 -- ---- whether a name stands there
 
-any_name : (own : Item → Option (List ℕ)) (name : List ℕ) (es : List Entry) → list_any (bytes_eq name) (names_in own es) ≡ stands own name es
+any_name : (own : Item → Option (List ℕ)) (name : List ℕ) (es : List Entry) → list_any (bytes_eq name) (names_in own es) ≡ has_name own name es
 any_name own name [] = refl
 any_name own name (e ∷ es) = by (own e.item) (any_name own name es)
   where
-    by : (o : Option (List ℕ)) → list_any (bytes_eq name) (names_in own es) ≡ stands own name es →
-        list_any (bytes_eq name) (option_to_list o ++ names_in own es) ≡ (is_named name o || stands own name es)
+    by : (o : Option (List ℕ)) → list_any (bytes_eq name) (names_in own es) ≡ has_name own name es →
+        list_any (bytes_eq name) (option_to_list o ++ names_in own es) ≡ (is_named name o || has_name own name es)
     by None h = h
     by (Some other) h = ap (λ (b : Bool). bytes_eq name other || b) h
 
-pub stands_is : (own : Item → Option (List ℕ)) (name : List ℕ) (es : List Entry) → is_some (first_place name (names_in own es)) ≡ stands own name es
+pub stands_is : (own : Item → Option (List ℕ)) (name : List ℕ) (es : List Entry) → is_some (first_place name (names_in own es)) ≡ has_name own name es
 stands_is own name es = stands_somewhere name (names_in own es) ∙ any_name own name es
 
 -- ---- what an index finds
@@ -150,8 +150,8 @@ hypothesis_at name es all names places o are values same h =
     ∙ hypothesis_is name es
     ∙ ap (λ (l : List Entry). hypothesis_place l name) same
 
-pub stands_at : (own : Item → Option (List ℕ)) (name : List ℕ) (es all : List Entry) (names : List (List ℕ)) → names ≡ names_in own es → es ≡ all → is_some (first_place name names) ≡ stands own name all
-stands_at own name es all names are same = ap (λ (l : List (List ℕ)). is_some (first_place name l)) are ∙ stands_is own name es ∙ ap (stands own name) same
+pub stands_at : (own : Item → Option (List ℕ)) (name : List ℕ) (es all : List Entry) (names : List (List ℕ)) → names ≡ names_in own es → es ≡ all → is_some (first_place name names) ≡ has_name own name all
+stands_at own name es all names are same = ap (λ (l : List (List ℕ)). is_some (first_place name l)) are ∙ stands_is own name es ∙ ap (has_name own name) same
 
 -- there are no more metrics than items
 more : (o : Option ℕ) (a b : ℕ) → a ≤ b → IfSome o (λ n. n < a) → IfSome o (λ n. n < b)

@@ -9,12 +9,12 @@ use Rattle.mdl_ast.specs.declared.items.Item.{Item}
 use Rattle.mdl_ast.specs.declared.items.Item.TheVariants.{Include, Sync, Metric, Constraint, Hypothesis, Search, Phase, Wish}
 use Rattle.mdl_ast.specs.declared.metric.Metric.{Metric as TheMetric}
 use Rattle.mdl_ast.specs.declared.metric.Constraint.{Constraint as TheConstraint}
-use Rattle.mdl_check.specs.Placed.{PlacedItem, Entry, placed, is_taken, included, with_included, placed_items}
+use Rattle.mdl_check.specs.Placed.{PlacedItem, Entry, placed_item, is_taken, included, with_included, placed_items}
 use Rattle.mdl_check.specs.Rules.{is_repeated, is_unknown, is_wrong, is_cyclic, is_astray, is_misused, parents_of, fault_of, misuse, own_variable, has_bad_value}
 use Rattle.mdl_check.specs.Names.{as_constraint, constraints_in, constraint_named}
 use Rattle.mdl_check.specs.Statements.{have}
 use Rattle.mdl_check.specs.Checking.{AreEntries, placed_of, fault_from, first_fault, metric_of, constraint_of, checked_of}
-use Rattle.mdl_check.specs.Sound.{Fits, OfEach, IsSoundMetric, IsSoundConstraint, TakesFitting, IsSound}
+use Rattle.mdl_check.specs.Sound.{Fits, OfEach, IsSoundMetric, IsSoundConstraint, TakesFitting, IsSoundCheck}
 use Rattle.mdl_check.proofs.Fitting.{none_of, all_map, all_zip, each_fits}
 use Rattle.mdl_check.specs.declared.fault.CheckFault.{CheckFault}
 use Rattle.mdl_check.specs.declared.fault.CheckKind.{CheckKind}
@@ -192,11 +192,11 @@ all_both : {X : Type 0} (P : X → Type 0) (a b : List X) → AllByRecursion P a
 all_both P [] b h g = g
 all_both P (x ∷ a) b h g = (h.0, all_both P a b h.1 g)
 
-small_taken : (line : ℕ) (metrics : Bool) (shipped : List Item) → AllByRecursion HasSmall shipped → AllByRecursion SmallPlaced (map (placed line) (filter (is_taken metrics) shipped))
+small_taken : (line : ℕ) (metrics : Bool) (shipped : List Item) → AllByRecursion HasSmall shipped → AllByRecursion SmallPlaced (map (placed_item line) (filter (is_taken metrics) shipped))
 small_taken line metrics [] h = tt
 small_taken line metrics (i ∷ shipped) h = go (is_taken metrics i) (filter (is_taken metrics) shipped) (small_taken line metrics shipped h.1)
   where
-    go : (b : Bool) (rest : List Item) → AllByRecursion SmallPlaced (map (placed line) rest) → AllByRecursion SmallPlaced (map (placed line) (cond b (i ∷ rest) rest))
+    go : (b : Bool) (rest : List Item) → AllByRecursion SmallPlaced (map (placed_item line) rest) → AllByRecursion SmallPlaced (map (placed_item line) (cond b (i ∷ rest) rest))
     go true rest g = (h.0, g)
     go false rest g = g
 
@@ -240,7 +240,7 @@ module _ (all : List Entry) where
       all_zip (λ e. SmallEntry e → SoundEntry e) SmallEntry SoundEntry (λ e f s. f s) all
       (right_from all (λ e. SmallEntry e → SoundEntry e) (λ before e r s. sound_item all before e.line e.item r.known r.right s) [] all none) small
 
-pub sound : (t : Resources) (shipped items : List Item) (es : List Entry) → AreEntries t (placed_items shipped items) es → first_fault es ≡ None → AllByRecursion HasSmall shipped → AllByRecursion HasSmall items → IsSound (checked_of es)
+pub sound : (t : Resources) (shipped items : List Item) (es : List Entry) → AreEntries t (placed_items shipped items) es → first_fault es ≡ None → AllByRecursion HasSmall shipped → AllByRecursion HasSmall items → IsSoundCheck (checked_of es)
 sound t shipped items es are none h g =
     let small = small_entries es (subst (AllByRecursion SmallPlaced) (sym are.places_are) (small_placed shipped items h g)) in
     let all = right_entries es none small in

@@ -11,7 +11,7 @@ use Rattle.mdl_ast.specs.declared.items.PhaseDecl.{PhaseDecl}
 use Rattle.mdl_ast.specs.declared.items.Wish.{Wish as TheWish}
 use Rattle.resource_tree.specs.Resources.{Resources}
 use Rattle.resource_tree.specs.Foci.{Selects}
-use Rattle.mdl_check.specs.Placed.{PlacedItem, Entry, placed, placed_items}
+use Rattle.mdl_check.specs.Placed.{PlacedItem, Entry, placed_item, placed_items}
 use Rattle.mdl_check.specs.Names.{metric_number}
 use Rattle.mdl_check.specs.Rules.{fault_of}
 use Rattle.mdl_check.specs.declared.fault.CheckFault.{CheckFault}
@@ -28,7 +28,7 @@ HasFocus t (Wish w) focus = Selects t w.focus focus
 HasFocus t item focus = focus ≡ None
 
 abbrev pub placed_of : Entry → PlacedItem
-placed_of e = placed e.line e.item
+placed_of e = placed_item e.line e.item
 
 abbrev pub HaveFoci : Resources → List Entry → Type 0
 HaveFoci t [] = Unit {0}
@@ -113,9 +113,9 @@ OneAnswer = (t : Resources) (shipped items : List Item) (a b : Result Checked Ch
     IsAnswer t shipped items a → IsAnswer t shipped items b → a ≡ b
 
 -- why a call was refused; running out of memory is always allowed
-abbrev pub Refuses : CheckError → (CheckFault → Type 0) → Type 0
-Refuses (error.Fault fault) why = why fault
-Refuses error.NoMemory why = Unit {0}
+abbrev pub CheckRefuses : CheckError → (CheckFault → Type 0) → Type 0
+CheckRefuses (error.Fault fault) why = why fault
+CheckRefuses error.NoMemory why = Unit {0}
 
 -- the names of the items that are a `sync`
 abbrev pub sync_of : Item → List (List ℕ)

@@ -34,7 +34,7 @@ places_from k [] = []
 places_from k (e ∷ es) = place_if e k ++ places_from (k + 1) es
 
 -- this is kept of the items of a list
-pub record IsKept (es : List Entry) (kept : Kept) : Type 0 where
+pub record AreIndexes (es : List Entry) (kept : Kept) : Type 0 where
   pub metrics_are : kept.metrics ≡ metric_names es
   pub constraints_are : kept.constraints ≡ constraint_names es
   pub uses_are : kept.uses.items ≡ constraints_in es

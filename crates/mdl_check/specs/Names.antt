@@ -27,8 +27,8 @@ is_named name None = false
 is_named name (Some own) = bytes_eq name own
 
 -- one of the items has the name, as what its kind is named
-abbrev pub stands : (Item → Option (List ℕ)) → List ℕ → List Entry → Bool
-stands own name es = list_any (λ e. is_named name (own e.item)) es
+abbrev pub has_name : (Item → Option (List ℕ)) → List ℕ → List Entry → Bool
+has_name own name es = list_any (λ e. is_named name (own e.item)) es
 
 -- the constraint that an item is
 abbrev pub as_constraint : Item → Option TheConstraint

@@ -9,8 +9,8 @@ pub record PlacedItem : Type 0 where
   pub line : ℕ
   pub item : Item
 
-abbrev pub placed : ℕ → Item → PlacedItem
-placed line item = record { line = line; item = item }
+abbrev pub placed_item : ℕ → Item → PlacedItem
+placed_item line item = record { line = line; item = item }
 
 -- an item and its line, with the focus that it selects if it is a wish
 pub record Entry : Type 0 where
@@ -42,12 +42,12 @@ is_taken metrics item = if metrics then not (is_hypothesis item) else is_hypothe
 
 -- the items that an item includes, at its line
 abbrev pub included : List Item → Item → List PlacedItem
-included shipped (Include i) = map (placed i.line) (filter (is_taken i.metrics) shipped)
+included shipped (Include i) = map (placed_item i.line) (filter (is_taken i.metrics) shipped)
 included shipped item = []
 
 -- an item, and after it those that it includes
 abbrev pub with_included : List Item → Item → List PlacedItem
-with_included shipped item = placed (line_of item) item ∷ included shipped item
+with_included shipped item = placed_item (line_of item) item ∷ included shipped item
 
 -- all items in their order
 abbrev pub placed_items : List Item → List Item → List PlacedItem

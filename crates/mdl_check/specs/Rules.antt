@@ -12,7 +12,7 @@ use Rattle.mdl_ast.specs.declared.metric.Constraint.{Constraint as TheConstraint
 use Rattle.mdl_ast.specs.declared.metric.Metric.{Metric as TheMetric}
 use Rattle.resource_tree.specs.SameNodes.{is_same_code, is_same_number}
 use Rattle.mdl_check.specs.Placed.{Entry}
-use Rattle.mdl_check.specs.Names.{variable_name, hypothesis_name, phase_name, stands, constraints_in, constraint_named, metric_number, hypothesis_place}
+use Rattle.mdl_check.specs.Names.{variable_name, hypothesis_name, phase_name, has_name, constraints_in, constraint_named, metric_number, hypothesis_place}
 use Rattle.mdl_check.specs.Statements.{have}
 use Rattle.mdl_check.specs.declared.uses.Use.{Use}
 use Rattle.mdl_check.specs.declared.uses.Use.TheVariants as uses
@@ -52,11 +52,11 @@ is_shown_by metric focus item other = false
 -- a metric's name stands before it, or two of its constraints are of one axis
 abbrev pub is_metric_repeated : List Entry → List Entry → TheMetric → Bool
 is_metric_repeated all before m =
-    stands variable_name m.name before || are_two_on all (codes "/Code") m.constraints || are_two_on all (codes "/SyncObject") m.constraints
+    has_name variable_name m.name before || are_two_on all (codes "/Code") m.constraints || are_two_on all (codes "/SyncObject") m.constraints
 
 -- `global` is a phase without being named
 abbrev pub is_phase_repeated : List Entry → PhaseDecl → Bool
-is_phase_repeated before p = bytes_eq p.name (codes "global") || stands phase_name p.name before
+is_phase_repeated before p = bytes_eq p.name (codes "global") || has_name phase_name p.name before
 
 abbrev pub is_wish_repeated : List Entry → TheWish → Option Focus → Bool
 is_wish_repeated before w focus = (w.at == 0) && w.show && list_any (λ e. is_shown_by w.metric focus e.item e.focus) before
@@ -66,8 +66,8 @@ abbrev pub is_repeated : List Entry → List Entry → Item → Option Focus →
 is_repeated all before (Include i) focus = list_any (λ e. is_include i.metrics e.item) before
 is_repeated all before (Sync s) focus = false
 is_repeated all before (Metric m) focus = is_metric_repeated all before m
-is_repeated all before (Constraint c) focus = stands variable_name c.name before
-is_repeated all before (Hypothesis h) focus = stands hypothesis_name h.name before
+is_repeated all before (Constraint c) focus = has_name variable_name c.name before
+is_repeated all before (Hypothesis h) focus = has_name hypothesis_name h.name before
 is_repeated all before (Search s) focus = list_any (λ e. is_search e.item) before
 is_repeated all before (Phase p) focus = is_phase_repeated before p
 is_repeated all before (Wish w) focus = is_wish_repeated before w focus
@@ -84,7 +84,7 @@ is_axis name = bytes_eq name (codes "Code") || bytes_eq name (codes "Machine") |
 -- the name is none of a hypothesis
 abbrev pub is_orphan : List Entry → Option (List ℕ) → Bool
 is_orphan all None = false
-is_orphan all (Some parent) = not (stands hypothesis_name parent all)
+is_orphan all (Some parent) = not (has_name hypothesis_name parent all)
 
 abbrev pub is_metric_unknown : List Entry → TheMetric → Bool
 is_metric_unknown all m =

@@ -54,7 +54,7 @@ TakesFitting cs m =
     AllByRecursion (λ name. (c : Constraint) → constraint_named cs name ≡ Some c → c.replace ≡ true
     → OfEach (Fits m.timer) c.blocks) m.constraints
 
-pub record IsSound (c : Checked) : Type 0 where
+pub record IsSoundCheck (c : Checked) : Type 0 where
   pub metrics : AllByRecursion IsSoundMetric c.metrics
   pub constraints : AllByRecursion IsSoundConstraint c.constraints
   pub replacements : AllByRecursion (TakesFitting c.constraints) c.metrics
@@ -62,4 +62,4 @@ pub record IsSound (c : Checked) : Type 0 where
 -- what the check accepts is sound, where the numbers of its statements are small, as those of parsed and shipped items are
 abbrev pub CheckedIsSound : Type 0
 CheckedIsSound = (t : Resources) (shipped items : List Item) (checked : Checked) → IsAnswer t shipped items (Ok checked)
-    → AllByRecursion HasSmall shipped → AllByRecursion HasSmall items → IsSound checked
+    → AllByRecursion HasSmall shipped → AllByRecursion HasSmall items → IsSoundCheck checked

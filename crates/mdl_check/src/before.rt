@@ -2,14 +2,14 @@
 
 ghost use Rattle.std.specs.Prelude.{◌≡◌, [], OnOk, length};
 ghost use Rattle.std.specs.List.{list_any};
-ghost use Rattle.mdl_check.specs.Names.{variable_name, hypothesis_name, phase_name, stands};
+ghost use Rattle.mdl_check.specs.Names.{variable_name, hypothesis_name, phase_name, has_name};
 ghost use Rattle.mdl_check.specs.Rules.{is_include, is_search, is_shown_by, last_tick, tick_behind};
 ghost use Rattle.mdl_check.specs.Indexes.{AreNoted, NotesMore, asked_behind, none_asked};
 ghost use Rattle.mdl_check.specs.Sights.{Puts, ShowsMore, is_same_sight};
 
 use crate::entry::Entry;
 use crate::names::{add_name, hypothesis_name, phase_name, variable_name};
-use crate::sight::{Sight, first_sight};
+use crate::sight::{MetricFocus, first_sight};
 use first_places::FirstPlaces;
 use mdl_ast::Item;
 use pn_types::{Focus, NoMemory};
@@ -91,7 +91,7 @@ pub(crate) struct Noted<'a> {
     hypotheses: FirstPlaces,
     phases: FirstPlaces,
     /// What is to be shown from the beginning on.
-    shown: HashSet<Sight<'a>>,
+    shown: HashSet<MetricFocus<'a>>,
     asked: Asked,
 }
 
@@ -128,13 +128,13 @@ impl<'n, 'e, 'a> Model for Before<'n, 'e, 'a> {
 }
 
 /// Whether a sight is among those that are shown.
-fn is_shown(shown: &HashSet<Sight<'_>>, sight: Sight<'_>) -> bool
+fn is_shown(shown: &HashSet<MetricFocus<'_>>, sight: MetricFocus<'_>) -> bool
     ensures { result ≡ list_any (is_same_sight sight.entry) shown.now.keys }
 {
     shown.contains(&sight)
 }
 
-fn put<'a>(shown: &mut HashSet<Sight<'a>>, sight: Sight<'a>) -> Result<(), NoMemory>
+fn put<'a>(shown: &mut HashSet<MetricFocus<'a>>, sight: MetricFocus<'a>) -> Result<(), NoMemory>
     ensures { OnOk result (Puts sight.entry shown.old.keys shown.new.keys) }
 {
     shown.insert(sight)?;
@@ -142,7 +142,7 @@ fn put<'a>(shown: &mut HashSet<Sight<'a>>, sight: Sight<'a>) -> Result<(), NoMem
 }
 
 /// Notes what an item shows from the beginning on, if it does.
-fn add_shown<'a>(shown: &mut HashSet<Sight<'a>>, entry: &Entry<'a>) -> Result<(), NoMemory>
+fn add_shown<'a>(shown: &mut HashSet<MetricFocus<'a>>, entry: &Entry<'a>) -> Result<(), NoMemory>
     ensures { OnOk result (ShowsMore entry.now shown.old.keys shown.new.keys) }
 {
     if let Some(sight) = first_sight(entry.item(), entry.focus()) {
@@ -196,21 +196,21 @@ impl<'n, 'e, 'a> Before<'n, 'e, 'a> {
 
     /// Whether one of them is a metric or a constraint of this name.
     pub(crate) fn has_variable(&self, name: &[u8]) -> bool
-        ensures { result ≡ stands variable_name name.now self.now }
+        ensures { result ≡ has_name variable_name name.now self.now }
     {
         self.noted.variables.lookup(name).is_some()
     }
 
     /// Whether one of them is a hypothesis of this name.
     pub(crate) fn has_hypothesis(&self, name: &[u8]) -> bool
-        ensures { result ≡ stands hypothesis_name name.now self.now }
+        ensures { result ≡ has_name hypothesis_name name.now self.now }
     {
         self.noted.hypotheses.lookup(name).is_some()
     }
 
     /// Whether one of them is a phase of this name.
     pub(crate) fn has_phase(&self, name: &[u8]) -> bool
-        ensures { result ≡ stands phase_name name.now self.now }
+        ensures { result ≡ has_name phase_name name.now self.now }
     {
         self.noted.phases.lookup(name).is_some()
     }
@@ -245,7 +245,7 @@ impl<'n, 'e, 'a> Before<'n, 'e, 'a> {
         ensures { result ≡ list_any (λ e. is_shown_by metric.now focus e.item e.focus) self.now }
     {
         match focus {
-            Some(focus) => is_shown(&self.noted.shown, Sight::new(metric, focus)),
+            Some(focus) => is_shown(&self.noted.shown, MetricFocus::new(metric, focus)),
             None => false,
         }
     }

@@ -3,11 +3,11 @@
 ghost use Rattle.std.specs.Prelude.{◌≡◌, ◌<◌, ◌^◌, ◌++◌, [], Ok, Err, IfOk, IfErr, OnOk, flat_map, length};
 ghost use Rattle.std.specs.List.{AllByRecursion};
 ghost use Rattle.mdl_ast.specs.Small.{HasSmall};
-ghost use Rattle.mdl_check.specs.Sound.{CheckedIsSound, IsSound};
+ghost use Rattle.mdl_check.specs.Sound.{CheckedIsSound, IsSoundCheck};
 ghost use Rattle.mdl_check.specs.Placed.{placed_items};
 ghost use Rattle.mdl_check.specs.Ancestors.{CyclicIsOwnAncestor};
-ghost use Rattle.mdl_check.specs.Checking.{IsAnswer, OneAnswer, Refuses, sync_of, prefixes_of};
-ghost use Rattle.mdl_check.specs.Indexes.{IsKept};
+ghost use Rattle.mdl_check.specs.Checking.{IsAnswer, OneAnswer, CheckRefuses, sync_of, prefixes_of};
+ghost use Rattle.mdl_check.specs.Indexes.{AreIndexes};
 ghost use Rattle.mdl_check.specs.Judged.{IsJudged};
 
 use crate::checked::Checked;
@@ -29,7 +29,7 @@ fn judged_by<'a>(
     kept: &mut Kept<'a>,
 ) -> Result<Checked, CheckError>
     requires few { length all.now < 2 ^ 32 }
-    requires none { IsKept [] kept.old }
+    requires none { AreIndexes [] kept.old }
     ensures { IsJudged all.now result }
 {
     kept.fill(alloc, all)?;
@@ -71,11 +71,11 @@ fn judged(alloc: Global, all: &[Entry<'_>]) -> Result<Checked, CheckError>
 pub fn check(alloc: Global, conf: &Conf, shipped: &Conf, tree: &Tree) -> Result<Checked, CheckError>
     requires { length (placed_items shipped.now.items conf.now.items) < 2 ^ 32 }
     ensures checked { IfOk result (λ checked. IsAnswer tree.now shipped.now.items conf.now.items (Ok checked)) }
-    ensures fault { IfErr result (λ e. Refuses e (λ fault. IsAnswer tree.now shipped.now.items conf.now.items (Err fault))) }
+    ensures fault { IfErr result (λ e. CheckRefuses e (λ fault. IsAnswer tree.now shipped.now.items conf.now.items (Err fault))) }
     // A number of 32 bits counts the metrics.
     ensures few { IfOk result (λ checked. length checked.metrics < 2 ^ 32) }
     // What is parsed or shipped has small statements.
-    ensures sound { AllByRecursion HasSmall shipped.now.items → AllByRecursion HasSmall conf.now.items → IfOk result IsSound }
+    ensures sound { AllByRecursion HasSmall shipped.now.items → AllByRecursion HasSmall conf.now.items → IfOk result IsSoundCheck }
 {
     let all = entries(alloc, tree, shipped.items.as_slice(), conf.items.as_slice())?;
     judged(alloc, &all)

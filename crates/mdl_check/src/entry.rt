@@ -1,7 +1,7 @@
 //! The items in their order, those of an include in its place.
 
 ghost use Rattle.std.specs.Prelude.{◌≡◌};
-ghost use Rattle.mdl_check.specs.Placed.{placed, entry};
+ghost use Rattle.mdl_check.specs.Placed.{placed_item, entry};
 
 use mdl_ast::Item;
 use pn_types::Focus;
@@ -15,17 +15,17 @@ pub(crate) struct PlacedItem<'a> {
 }
 
 impl<'a> Model for PlacedItem<'a> {
-    ghost use Rattle.mdl_check.specs.Placed.{PlacedItem, placed};
+    ghost use Rattle.mdl_check.specs.Placed.{PlacedItem, placed_item};
 
     ghost Value = { PlacedItem };
 
-    ghost view = { λ s. placed s.line s.item.now };
+    ghost view = { λ s. placed_item s.line s.item.now };
 }
 
 impl<'a> PlacedItem<'a> {
     /// An item at this line.
     pub(crate) fn new(line: u32, item: &'a Item) -> PlacedItem<'a>
-        ensures { result ≡ placed line item.now }
+        ensures { result ≡ placed_item line item.now }
     {
         PlacedItem { line, item }
     }
@@ -64,7 +64,7 @@ impl<'a> Model for Entry<'a> {
 impl<'a> Entry<'a> {
     /// An item at this line with this focus.
     pub(crate) fn new(placed: &PlacedItem<'a>, focus: Option<Focus>) -> Entry<'a>
-        ensures { result ≡ entry placed.now.line placed.now.item focus }
+        ensures { result ≡ entry placed_item.now.line placed_item.now.item focus }
     {
         Entry {
             line: placed.line(),

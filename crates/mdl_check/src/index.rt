@@ -2,9 +2,9 @@
 
 ghost use Rattle.std.specs.Prelude.{◌≡◌, ◌<◌, ◌++◌, [], IfSome, OnOk, Some, length, option_to_list, slice_get};
 ghost use Rattle.std.specs.Option.{option_map};
-ghost use Rattle.mdl_check.specs.Names.{constraints_in, constraint_named, metric_number, hypothesis_name, hypothesis_place, stands, as_constraint};
+ghost use Rattle.mdl_check.specs.Names.{constraints_in, constraint_named, metric_number, hypothesis_name, hypothesis_place, has_name, as_constraint};
 ghost use Rattle.mdl_check.specs.Rules.{is_misused, is_on};
-ghost use Rattle.mdl_check.specs.Indexes.{IsKept, KeepsMore, place_if};
+ghost use Rattle.mdl_check.specs.Indexes.{AreIndexes, KeepsMore, place_if};
 
 use crate::entry::Entry;
 use crate::names::{add_name, as_constraint, constraint_name, hypothesis_name, metric_name};
@@ -103,13 +103,13 @@ pub(crate) struct Index<'e, 'a> {
 impl<'e, 'a> Model for Index<'e, 'a> {
     ghost use Rattle.std.specs.Prelude.{List};
     ghost use Rattle.mdl_check.specs.Placed.{Entry};
-    ghost use Rattle.mdl_check.specs.Indexes.{IsKept};
+    ghost use Rattle.mdl_check.specs.Indexes.{AreIndexes};
 
     ghost Value = { List Entry };
 
     ghost view = { λ i. i.all.now };
 
-    ghost invariant = { λ i. IsKept i.all.now i.kept.now };
+    ghost invariant = { λ i. AreIndexes i.all.now i.kept.now };
 }
 
 fn add_use<'a>(uses: &mut Vec<ConstraintUse<'a>>, entry: &Entry<'a>) -> Result<(), NoMemory>
@@ -134,7 +134,7 @@ fn add_place(places: &mut Vec<usize>, entry: &Entry<'_>, place: usize) -> Result
 impl<'a> Kept<'a> {
     /// What is kept of no items.
     pub(crate) fn none(alloc: Global) -> Kept<'a>
-        ensures { IsKept [] result }
+        ensures { AreIndexes [] result }
     {
         Kept {
             metrics: FirstPlaces::new(alloc),
@@ -159,8 +159,8 @@ impl<'a> Kept<'a> {
 
     /// Keeps what is needed of these items, where nothing is kept yet. Its cost is linear in their bytes.
     pub(crate) fn fill(&mut self, alloc: Global, all: &[Entry<'a>]) -> Result<(), NoMemory>
-        requires { IsKept [] self.old }
-        ensures { OnOk result (IsKept all.now self.new) }
+        requires { AreIndexes [] self.old }
+        ensures { OnOk result (AreIndexes all.now self.new) }
     {
         for (place, entry) in all.iter().enumerate() {
             self.add(alloc, entry, place)?;
@@ -189,7 +189,7 @@ fn place_at(places: &[usize], number: usize) -> Option<usize>
 impl<'e, 'a> Index<'e, 'a> {
     /// The index of these items, of which this is kept.
     pub(crate) fn new(all: &'e [Entry<'a>], kept: &'e Kept<'a>) -> Index<'e, 'a>
-        requires { IsKept all.now kept.now }
+        requires { AreIndexes all.now kept.now }
         ensures { result ≡ all.now }
     {
         Index { all, kept }
@@ -228,7 +228,7 @@ impl<'e, 'a> Index<'e, 'a> {
 
     /// Whether there is a hypothesis of this name.
     pub(crate) fn has_hypothesis(&self, name: &[u8]) -> bool
-        ensures { result ≡ stands hypothesis_name name.now self.now }
+        ensures { result ≡ has_name hypothesis_name name.now self.now }
     {
         self.kept.hypotheses.lookup(name).is_some()
     }

@@ -2,7 +2,7 @@
 
 ghost use Rattle.std.specs.Prelude.{◌≡◌, [], IfErr, None, OnOk, Some};
 ghost use Rattle.mdl_check.specs.Rules.{fault_of, parents_of};
-ghost use Rattle.mdl_check.specs.Checking.{first_fault, Refuses};
+ghost use Rattle.mdl_check.specs.Checking.{first_fault, CheckRefuses};
 ghost use Rattle.mdl_check.specs.Indexes.{AreNoted};
 
 use crate::ancestors::Ancestry;
@@ -53,7 +53,7 @@ fn find_fault_by<'a>(
     requires parents { ancestry.now ≡ parents_of index.now }
     requires none { AreNoted [] noted.old }
     ensures none { OnOk result (first_fault index.now ≡ None) }
-    ensures fault { IfErr result (λ e. Refuses e (λ fault. first_fault index.now ≡ Some fault)) }
+    ensures fault { IfErr result (λ e. CheckRefuses e (λ fault. first_fault index.now ≡ Some fault)) }
 {
     let all = index.all();
     for (place, entry) in all.iter().enumerate() {
@@ -72,7 +72,7 @@ fn find_fault_by<'a>(
 /// Looks for the first faulty item, whose line and fault are told.
 pub(crate) fn find_fault(alloc: Global, index: &Index<'_, '_>) -> Result<(), CheckError>
     ensures none { OnOk result (first_fault index.now ≡ None) }
-    ensures fault { IfErr result (λ e. Refuses e (λ fault. first_fault index.now ≡ Some fault)) }
+    ensures fault { IfErr result (λ e. CheckRefuses e (λ fault. first_fault index.now ≡ Some fault)) }
 {
     let ancestry = Ancestry::of(alloc, index)?;
     let mut noted = Noted::none(alloc);

@@ -1,7 +1,7 @@
 //! The items in their order, and their foci.
 
 ghost use Rattle.std.specs.Prelude.{◌≡◌, ◌++◌, ◌∷◌, [], IfOk, OnOk, if◌then◌else◌};
-ghost use Rattle.mdl_check.specs.Placed.{placed, line_of, is_hypothesis, is_taken, included, with_included, placed_items};
+ghost use Rattle.mdl_check.specs.Placed.{placed_item, line_of, is_hypothesis, is_taken, included, with_included, placed_items};
 ghost use Rattle.mdl_check.specs.Checking.{HasFocus, AreEntries};
 
 use crate::entry::{Entry, PlacedItem};
@@ -41,7 +41,7 @@ fn add_taken<'a>(
     item: &'a Item,
 ) -> Result<(), NoMemory>
     ensures { OnOk result (placed_items.new.items ≡ (if is_taken include.metrics item.now
-        then placed_items.old.items ++ (placed include.line item.now ∷ [])
+        then placed_items.old.items ++ (placed_item include.line item.now ∷ [])
         else placed_items.old.items)) }
 {
     if is_taken(include.metrics, item) {

@@ -8,8 +8,8 @@ use Rattle.mdl_ast.specs.declared.action.Action.{Action}
 use Rattle.mdl_ast.specs.declared.action.Action.TheVariants as act
 use Rattle.mdl_parse.specs.declared.change.Change.{Change}
 use Rattle.mdl_parse.specs.declared.change.Change.TheVariants.{Up, Down, Put}
-use Rattle.mdl_parse.specs.Actions.{changed, timed}
-use Rattle.mdl_parse.specs.WordsInText.{PlacedWord, TreeWord, Goes, goes}
+use Rattle.mdl_parse.specs.Actions.{action_of_change, timed}
+use Rattle.mdl_parse.specs.WordsInText.{PlacedWord, TreeWord, Goes, other_words}
 use Rattle.mdl_parse.specs.Picks.{is_sign, var_of}
 use Rattle.mdl_parse.specs.Steps.{Read, ◌>>=◌, is_first, leaf_at}
 use Rattle.mdl_parse.specs.Readers.{sign_at, var_at, step_at}
@@ -60,7 +60,7 @@ change_reads = either_reads (is_sign Assign) is_put put_reads single_reads start
 -- ---- actions
 
 abbrev pub action_tree_words : Action → List TreeWord
-action_tree_words a = goes (action_words a)
+action_tree_words a = other_words (action_words a)
 
 abbrev is_timed : Action → Bool
 is_timed (act.Start var) = true
@@ -83,25 +83,25 @@ opening_reads = leaf_reads opening_of var_word BeginsStatement picked (λ v h. r
         go false false i t e = let same = var_picked w v e in (same, (ap is_if (sym same) ∙ i, ap is_timing (sym same) ∙ t))
 
 opening_changed_at : List PlacedWord → Read Action
-opening_changed_at words_ahead = leaf_at opening_of words_ahead >>= λ var. change_at var.1 >>= λ change. sign_at Semicolon change.1 >>= λ end. Ok (changed var.0 change.0, end.1)
+opening_changed_at words_ahead = leaf_at opening_of words_ahead >>= λ var. change_at var.1 >>= λ change. sign_at Semicolon change.1 >>= λ end. Ok (action_of_change var.0 change.0, end.1)
 
 changed_reads : Reads (λ n. opening_changed_at) action_tree_words (of_kind is_timed (plainly ActionShaped) false) closed
 unfolding opening_changed_at
-changed_reads = made (both opening_reads (both change_reads (sign_reads Semicolon))) (λ p. changed p.0 p.1.0)
+changed_reads = made (both opening_reads (both change_reads (sign_reads Semicolon))) (λ p. action_of_change p.0 p.1.0)
     (λ n. opening_changed_at) action_tree_words (of_kind is_timed (plainly ActionShaped) false) closed
     (λ n words_ahead. simp bind_assoc) (λ n p h. tree_words p.0 p.1.0) (λ n a h. refl) (λ n p h. shaped p.0 p.1.0 h.0) back (λ n k b le h. h)
   where
-    tree_words : (var : VarName) (change : Change) → action_tree_words (changed var change) ≡ Goes (var_word var) ∷ (change_tree_words change ++ (Goes (SignWord Semicolon) ∷ []))
+    tree_words : (var : VarName) (change : Change) → action_tree_words (action_of_change var change) ≡ Goes (var_word var) ∷ (change_tree_words change ++ (Goes (SignWord Semicolon) ∷ []))
     tree_words var Up = refl
     tree_words var Down = refl
     tree_words var (Put n) = refl
 
-    shaped : (var : VarName) (change : Change) → BeginsStatement var → (is_timed (changed var change) ≡ false) × ActionShaped (changed var change)
+    shaped : (var : VarName) (change : Change) → BeginsStatement var → (is_timed (action_of_change var change) ≡ false) × ActionShaped (action_of_change var change)
     shaped var Up h = (refl, h)
     shaped var Down h = (refl, h)
     shaped var (Put n) h = (refl, h)
 
-    back : (n : ℕ) (b : Action) → of_kind is_timed (plainly ActionShaped) false n b → (a : VarName × (Change × Unit {0})) × (BeginsStatement a.0 × (Unit {0} × Unit {0})) × (changed a.0 a.1.0 ≡ b)
+    back : (n : ℕ) (b : Action) → of_kind is_timed (plainly ActionShaped) false n b → (a : VarName × (Change × Unit {0})) × (BeginsStatement a.0 × (Unit {0} × Unit {0})) × (action_of_change a.0 a.1.0 ≡ b)
     back n (act.Up var) h = ((var, (Up, tt)), (h.1, (tt, tt)), refl)
     back n (act.Down var) h = ((var, (Down, tt)), (h.1, (tt, tt)), refl)
     back n (act.Put var k) h = ((var, (Put k, tt)), (h.1, (tt, tt)), refl)

@@ -14,7 +14,7 @@ use Rattle.mdl_ast.specs.declared.block.Set.{Set}
 use Rattle.mdl_ast.specs.declared.block.Set.TheVariants as set
 use Rattle.mdl_ast.specs.declared.block.EventKind.{EventKind}
 use Rattle.mdl_ast.specs.declared.block.Insertion.{Insertion}
-use Rattle.mdl_parse.specs.WordsInText.{PlacedWord, TreeWord, Starts, Goes, goes, IsWord}
+use Rattle.mdl_parse.specs.WordsInText.{PlacedWord, TreeWord, Starts, Goes, other_words, IsWord}
 use Rattle.mdl_parse.specs.Picks.{is_sign, is_var, is_insertion}
 use Rattle.mdl_parse.specs.Steps.{◌>>=◌, is_first, option_at, many_at}
 use Rattle.mdl_parse.specs.Readers.{keyword_at, whole_at}
@@ -32,8 +32,8 @@ use Rattle.mdl_parse.proofs.LeafRules.{keyword_reads, sign_reads, start_reads, n
 use Rattle.mdl_parse.proofs.ChoiceRules.{choice_reads, choice_word, event_reads, whole_reads, is_named, whole_word}
 use Rattle.mdl_parse.proofs.StatementRules.{statement_reads, goes-append, goes-flat_map}
 
-pub goes_behind : (a b : List Word) (rest : List TreeWord) → goes (a ++ b) ++ rest ≡ goes a ++ (goes b ++ rest)
-goes_behind a b rest = ap (λ (t : List TreeWord). t ++ rest) (goes-append a b) ∙ append_assoc (goes a) (goes b) rest
+pub goes_behind : (a b : List Word) (rest : List TreeWord) → other_words (a ++ b) ++ rest ≡ other_words a ++ (other_words b ++ rest)
+goes_behind a b rest = ap (λ (t : List TreeWord). t ++ rest) (goes-append a b) ∙ append_assoc (other_words a) (other_words b) rest
 
 -- ---- statements of an insertion
 
@@ -63,17 +63,17 @@ abbrev pub flag_on : List ℕ → Bool → Word → Bool
 flag_on text true = never
 flag_on text false = is_keyword text
 
-pub flag_reads : (text : List ℕ) → IsWord (keyword text) → Reads (λ n. flag_at text) (λ b. goes (flag_words text b)) any (flag_on text)
+pub flag_reads : (text : List ℕ) → IsWord (keyword text) → Reads (λ n. flag_at text) (λ b. other_words (flag_words text b)) any (flag_on text)
 unfolding flag_at option_at
 flag_reads text good = made (option_reads (is_keyword text) (λ n. keyword_at text) (one_word (λ x. keyword text)) any (keyword_reads text good) (λ n a h. keyword-is text))
-    is_some (λ n. flag_at text) (λ b. goes (flag_words text b)) any (flag_on text)
+    is_some (λ n. flag_at text) (λ b. other_words (flag_words text b)) any (flag_on text)
     (λ n words_ahead. same words_ahead (is_first (is_keyword text) words_ahead)) tree_words (λ n a h. on a) (λ n a h. tt) back (λ n k b le h. tt)
   where
     same : (words_ahead : List PlacedWord) (b : Bool) → cond b (keyword_at text words_ahead >>= λ x. Ok (true, x.1)) (Ok (false, words_ahead)) ≡ (cond b (keyword_at text words_ahead >>= λ x. Ok (Some x.0, x.1)) (Ok (None, words_ahead)) >>= λ x. Ok (is_some x.0, x.1))
     same words_ahead true = sym (bind_assoc (keyword_at text words_ahead) (λ x. Ok (Some x.0, x.1)) (λ x. Ok (is_some x.0, x.1)))
     same words_ahead false = refl
 
-    tree_words : (n : ℕ) (a : Option (Unit {0})) → option_ok any n a → goes (flag_words text (is_some a)) ≡ option_tree_words (one_word (λ x. keyword text)) a
+    tree_words : (n : ℕ) (a : Option (Unit {0})) → option_ok any n a → other_words (flag_words text (is_some a)) ≡ option_tree_words (one_word (λ x. keyword text)) a
     tree_words n None h = refl
     tree_words n (Some x) h = refl
 
@@ -105,7 +105,7 @@ insertion_reads = made (lined_reads _ _ _ _
 
     tree_words : (line : ℕ) (prepend : Bool) (kind : EventKind) (constrained : Bool) (stmts : List Statement)
         → insertion_tree_words (record { line = line; prepend = prepend; kind = kind; constrained = constrained; stmts = stmts })
-        ≡ Starts line (choice_word (codes "prepend") (codes "append") prepend) ∷ Goes (keyword (event_name kind)) ∷ (goes (flag_words (codes "constrained") constrained)
+        ≡ Starts line (choice_word (codes "prepend") (codes "append") prepend) ∷ Goes (keyword (event_name kind)) ∷ (other_words (flag_words (codes "constrained") constrained)
         ++ (Goes (SignWord OpenCode) ∷ (flat_map statement_tree_words stmts ++ (Goes (SignWord CloseCode) ∷ []))))
     tree_words line prepend kind true stmts = refl
     tree_words line prepend kind false stmts = refl
@@ -129,7 +129,7 @@ abbrev pub another_words : List ℕ → List Word
 another_words name = SignWord Comma ∷ NameWord name ∷ []
 
 abbrev pub another_tree_words : List ℕ → List TreeWord
-another_tree_words name = goes (another_words name)
+another_tree_words name = other_words (another_words name)
 
 pub another_reads : Reads (λ n. another_at) another_tree_words any closed
 unfolding another_at
@@ -143,7 +143,7 @@ pub names_loop : Loop (is_sign Comma) another_at
 names_loop = loops (is_sign Comma) (λ n. another_at) another_tree_words any another_reads (λ n a h. refl) 0
 
 abbrev pub names_tree_words : List (List ℕ) → List TreeWord
-names_tree_words names = goes (names_words names)
+names_tree_words names = other_words (names_words names)
 
 pub all_any : {A : Type 0} (n : ℕ) (names : List A) → all_ok any n names
 all_any n [] = tt
@@ -161,7 +161,7 @@ names_reads = made (both name_reads others_reads) (λ p. p.0 ∷ p.1) (λ n. nam
 -- ---- sets
 
 abbrev set_tree_words : Set → List TreeWord
-set_tree_words s = goes (set_words s)
+set_tree_words s = other_words (set_words s)
 
 abbrev OfSet : Bool → ℕ → Set → Type 0
 OfSet b = of_kind is_named (plainly SetShaped) b

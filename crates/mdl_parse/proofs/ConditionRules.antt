@@ -12,7 +12,7 @@ use Rattle.mdl_ast.specs.declared.action.LeftName.TheVariants.{Variable, Argumen
 use Rattle.mdl_ast.specs.declared.action.RightSide.{RightSide}
 use Rattle.mdl_ast.specs.declared.action.RightSide.TheVariants.{Value}
 use Rattle.mdl_ast.specs.declared.action.Condition.{Condition}
-use Rattle.mdl_parse.specs.WordsInText.{PlacedWord, TreeWord, Goes, goes}
+use Rattle.mdl_parse.specs.WordsInText.{PlacedWord, TreeWord, Goes, other_words}
 use Rattle.mdl_parse.specs.Picks.{is_arg}
 use Rattle.mdl_parse.specs.Shapes.{is_if}
 use Rattle.mdl_parse.specs.Parts.{argument_at, variable_at, left_at, condition_at, conditions_at}
@@ -29,7 +29,7 @@ use Rattle.mdl_parse.proofs.ChoiceRules.{var_reads, right_reads, cmp_reads}
 -- ---- the left side of a condition
 
 abbrev left_tree_words : LeftName → List TreeWord
-left_tree_words left = goes (left_words left)
+left_tree_words left = other_words (left_words left)
 
 abbrev is_argument : LeftName → Bool
 is_argument (Variable var) = false
@@ -67,7 +67,7 @@ left_reads = either_reads is_arg is_argument argument_reads variable_reads start
 -- ---- conditions
 
 abbrev pub condition_tree_words : Condition → List TreeWord
-condition_tree_words c = goes (condition_words c)
+condition_tree_words c = other_words (condition_words c)
 
 pub condition_reads : Reads (λ n. condition_at) condition_tree_words any closed
 unfolding condition_at
@@ -90,10 +90,10 @@ behind_if = SignWord OpenParen ∷ DollarMetric ∷ SignWord (cmp_sign Eq) ∷ r
 pub condition_opens : (x : PlacedWord) → is_if x.word ≡ true → Completed condition_tree_words any 0 (x ∷ [])
 condition_opens x h = record {
   whole = record { left = Variable TheMetric; cmp = Eq; right = Value };
-  tail = all_placed_as (goes behind_if);
+  tail = all_placed_as (other_words behind_if);
   shaped = tt;
-  spelled = (is_keyword-true (codes "if") x.word h, placed_spell (goes behind_if));
-  words = placed_are_words (goes behind_if) (refl, (refl, (refl, (refl, (refl, tt)))));
+  spelled = (is_keyword-true (codes "if") x.word h, placed_spell (other_words behind_if));
+  words = placed_are_words (other_words behind_if) (refl, (refl, (refl, (refl, (refl, tt)))));
 }
 
 pub conditions_reads : Reads conditions_at (flat_map condition_tree_words) few (always is_if)

@@ -6,7 +6,7 @@ use Rattle.pn_text.specs.Words.{Word, NameWord, NumberWord, QuotedWord, SignWord
 use Rattle.pn_text.specs.declared.token.Sign.TheVariants.{OpenBrace, CloseBrace, Semicolon}
 use Rattle.mdl_ast.specs.declared.items.Hypothesis.{Hypothesis}
 use Rattle.mdl_ast.specs.declared.block.Block.{Block}
-use Rattle.mdl_parse.specs.WordsInText.{PlacedWord, TreeWord, Starts, Goes, goes, starts, IsWord}
+use Rattle.mdl_parse.specs.WordsInText.{PlacedWord, TreeWord, Starts, Goes, other_words, starts, IsWord}
 use Rattle.mdl_parse.specs.Steps.{Read, ◌>>=◌, is_first, option_at}
 use Rattle.mdl_parse.specs.Readers.{keyword_at, sign_at, name_at, number_at, quoted_at}
 use Rattle.mdl_parse.specs.Items.{opened_at, initial_at, initially_at, reference_at, references_at, units_at, base_at, body_at, metric_at, constraint_at, named_field_at, number_field_at, parent_at, axis_names_at, axes_at, hypothesis_at, include_at, sync_at, search_at, phase_at, wish_at}
@@ -28,26 +28,26 @@ use Rattle.mdl_parse.proofs.BlockRules.{blocks_reads, names_reads, goes_behind, 
 
 field_reads : {A : Type 0} (text : List ℕ) → IsWord (keyword text) → (r : List PlacedWord → Read A) (word : A → Word) → Reads (λ n. r) (one_word word) any closed →
     (r' : List PlacedWord → Read A) → ((words_ahead : List PlacedWord) → r' words_ahead ≡ (keyword_at text words_ahead >>= λ w. r w.1 >>= λ a. sign_at Semicolon a.1 >>= λ e. Ok (a.0, e.1))) →
-    Reads (λ n. r') (λ a. goes (keyword text ∷ word a ∷ SignWord Semicolon ∷ [])) any closed
-field_reads text good r word p r' same = made (both (keyword_reads text good) (both p (sign_reads Semicolon))) (λ x. x.1.0) (λ n. r') (λ a. goes (keyword text ∷ word a ∷ SignWord Semicolon ∷ [])) any closed
+    Reads (λ n. r') (λ a. other_words (keyword text ∷ word a ∷ SignWord Semicolon ∷ [])) any closed
+field_reads text good r word p r' same = made (both (keyword_reads text good) (both p (sign_reads Semicolon))) (λ x. x.1.0) (λ n. r') (λ a. other_words (keyword text ∷ word a ∷ SignWord Semicolon ∷ [])) any closed
     (λ n words_ahead. same words_ahead ∙ simp bind_assoc) (λ n a h. refl) (λ n a h. refl) (λ n a h. tt) (λ n b h. ((tt, (b, tt)), (tt, (tt, tt)), refl)) (λ n k b le h. tt)
 
-pub named_field_reads : (text : List ℕ) → IsWord (keyword text) → Reads (λ n. named_field_at text) (λ name. goes (keyword text ∷ NameWord name ∷ SignWord Semicolon ∷ [])) any closed
+pub named_field_reads : (text : List ℕ) → IsWord (keyword text) → Reads (λ n. named_field_at text) (λ name. other_words (keyword text ∷ NameWord name ∷ SignWord Semicolon ∷ [])) any closed
 unfolding named_field_at
 named_field_reads text good = field_reads text good name_at NameWord name_reads (named_field_at text) (λ words_ahead. refl)
 
-pub number_field_reads : (text : List ℕ) → IsWord (keyword text) → Reads (λ n. number_field_at text) (λ k. goes (keyword text ∷ NumberWord k ∷ SignWord Semicolon ∷ [])) any closed
+pub number_field_reads : (text : List ℕ) → IsWord (keyword text) → Reads (λ n. number_field_at text) (λ k. other_words (keyword text ∷ NumberWord k ∷ SignWord Semicolon ∷ [])) any closed
 unfolding number_field_at
 number_field_reads text good = field_reads text good number_at NumberWord number_reads (number_field_at text) (λ words_ahead. refl)
 
 abbrev pub reference_tree_words : List ℕ → List TreeWord
-reference_tree_words name = goes (reference_words name)
+reference_tree_words name = other_words (reference_words name)
 
-pub reference_reads : Reads (λ n. reference_at) (λ name. goes (reference_words name)) any closed
+pub reference_reads : Reads (λ n. reference_at) (λ name. other_words (reference_words name)) any closed
 unfolding reference_at
 reference_reads = field_reads (codes "constraint") refl name_at NameWord name_reads reference_at (λ words_ahead. refl)
 
-units_reads : Reads (λ n. units_at) (λ units. goes (keyword (codes "units") ∷ QuotedWord units ∷ SignWord Semicolon ∷ [])) any closed
+units_reads : Reads (λ n. units_at) (λ units. other_words (keyword (codes "units") ∷ QuotedWord units ∷ SignWord Semicolon ∷ [])) any closed
 unfolding units_at
 units_reads = field_reads (codes "units") refl quoted_at QuotedWord quoted_reads units_at (λ words_ahead. refl)
 
@@ -59,26 +59,26 @@ opened_reads text good = made (both (start_reads text good) (both name_reads (si
 
 -- ---- metrics and constraints
 
-pub references_reads : Reads (λ n. references_at) (flat_map (λ name. goes (reference_words name))) (all_ok any) (always (is_keyword (codes "constraint")))
-references_reads = many_reads (is_keyword (codes "constraint")) (λ n. reference_at) (λ name. goes (reference_words name)) any reference_reads (λ n a h. refl)
+pub references_reads : Reads (λ n. references_at) (flat_map (λ name. other_words (reference_words name))) (all_ok any) (always (is_keyword (codes "constraint")))
+references_reads = many_reads (is_keyword (codes "constraint")) (λ n. reference_at) (λ name. other_words (reference_words name)) any reference_reads (λ n a h. refl)
 
 pub references_loop : Loop (is_keyword (codes "constraint")) reference_at
 references_loop = loops (is_keyword (codes "constraint")) (λ n. reference_at) reference_tree_words any reference_reads (λ n a h. refl) 0
 
-initial_reads : Reads (λ n. initial_at) (λ k. goes (keyword (codes "initially") ∷ NumberWord k ∷ [])) any closed
+initial_reads : Reads (λ n. initial_at) (λ k. other_words (keyword (codes "initially") ∷ NumberWord k ∷ [])) any closed
 unfolding initial_at
-initial_reads = made (both (keyword_reads (codes "initially") refl) number_reads) (λ p. p.1) (λ n. initial_at) (λ k. goes (keyword (codes "initially") ∷ NumberWord k ∷ [])) any closed
+initial_reads = made (both (keyword_reads (codes "initially") refl) number_reads) (λ p. p.1) (λ n. initial_at) (λ k. other_words (keyword (codes "initially") ∷ NumberWord k ∷ [])) any closed
     (λ n words_ahead. simp bind_assoc) (λ n a h. refl) (λ n a h. refl) (λ n a h. tt) (λ n b h. ((tt, b), (tt, tt), refl)) (λ n k b le h. tt)
 
 abbrev initially_on : Option ℕ → Word → Bool
 initially_on = option_on (is_keyword (codes "initially"))
 
-initially_reads : Reads (λ n. initially_at) (λ o. goes (initially_words o)) any initially_on
-initially_reads = made (option_reads (is_keyword (codes "initially")) (λ n. initial_at) (λ k. goes (keyword (codes "initially") ∷ NumberWord k ∷ [])) any initial_reads (λ n a h. refl))
-    (λ o. o) (λ n. initially_at) (λ o. goes (initially_words o)) any initially_on
+initially_reads : Reads (λ n. initially_at) (λ o. other_words (initially_words o)) any initially_on
+initially_reads = made (option_reads (is_keyword (codes "initially")) (λ n. initial_at) (λ k. other_words (keyword (codes "initially") ∷ NumberWord k ∷ [])) any initial_reads (λ n a h. refl))
+    (λ o. o) (λ n. initially_at) (λ o. other_words (initially_words o)) any initially_on
     (λ n words_ahead. bind_id (initially_at words_ahead)) tree_words (λ n a h. refl) (λ n a h. tt) back (λ n k b le h. tt)
   where
-    tree_words : (n : ℕ) (a : Option ℕ) → option_ok any n a → goes (initially_words a) ≡ option_tree_words (λ k. goes (keyword (codes "initially") ∷ NumberWord k ∷ [])) a
+    tree_words : (n : ℕ) (a : Option ℕ) → option_ok any n a → other_words (initially_words a) ≡ option_tree_words (λ k. other_words (keyword (codes "initially") ∷ NumberWord k ∷ [])) a
     tree_words n None h = refl
     tree_words n (Some k) h = refl
 
@@ -91,14 +91,14 @@ initially_ends : (o : Option ℕ) → initially_on o (SignWord OpenBrace) ≡ fa
 initially_ends None = refl
 initially_ends (Some k) = refl
 
-base_reads : Reads (λ n. base_at) (λ timer. goes (keyword (codes "base") ∷ keyword (codes "is") ∷ choice_word (codes "timer") (codes "counter") timer ∷ [])) any closed
+base_reads : Reads (λ n. base_at) (λ timer. other_words (keyword (codes "base") ∷ keyword (codes "is") ∷ choice_word (codes "timer") (codes "counter") timer ∷ [])) any closed
 unfolding base_at
 base_reads = made (both (keyword_reads (codes "base") refl) (both (keyword_reads (codes "is") refl) (choice_reads (codes "timer") (codes "counter") refl refl)))
-    (λ p. p.1.1) (λ n. base_at) (λ timer. goes (keyword (codes "base") ∷ keyword (codes "is") ∷ choice_word (codes "timer") (codes "counter") timer ∷ [])) any closed
+    (λ p. p.1.1) (λ n. base_at) (λ timer. other_words (keyword (codes "base") ∷ keyword (codes "is") ∷ choice_word (codes "timer") (codes "counter") timer ∷ [])) any closed
     (λ n words_ahead. simp bind_assoc) (λ n a h. refl) (λ n a h. refl) (λ n a h. tt) (λ n b h. ((tt, (tt, b)), (tt, (tt, tt)), refl)) (λ n k b le h. tt)
 
 abbrev body_tree_words : Option ℕ × List Block → List TreeWord
-body_tree_words b = goes (initially_words b.0) ++ blocks_tree_words b.1
+body_tree_words b = other_words (initially_words b.0) ++ blocks_tree_words b.1
 
 body_reads : Reads body_at body_tree_words (λ n b. BlocksShaped n b.1) closed
 unfolding body_at
@@ -118,14 +118,14 @@ metric_reads = made (both (opened_reads (codes "metric") refl) (both units_reads
     tree_words : (line : ℕ) (name units : List ℕ) (constraints : List (List ℕ)) (timer : Bool) (initially : Option ℕ) (blocks : List Block)
         → metric_tree_words (record { line = line; name = name; units = units; constraints = constraints; timer = timer; initially = initially; blocks = blocks })
         ≡ Starts line (keyword (codes "metric")) ∷ Goes (NameWord name) ∷ Goes (SignWord OpenBrace) ∷ Goes (keyword (codes "units")) ∷ Goes (QuotedWord units) ∷ Goes (SignWord Semicolon)
-        ∷ (flat_map (λ name. goes (reference_words name)) constraints
+        ∷ (flat_map (λ name. other_words (reference_words name)) constraints
         ++ (Goes (keyword (codes "base")) ∷ Goes (keyword (codes "is")) ∷ Goes (choice_word (codes "timer") (codes "counter") timer)
-        ∷ ((goes (initially_words initially) ++ blocks_tree_words blocks) ++ (Goes (SignWord CloseBrace) ∷ []))))
+        ∷ ((other_words (initially_words initially) ++ blocks_tree_words blocks) ++ (Goes (SignWord CloseBrace) ∷ []))))
     tree_words line name units constraints timer initially blocks = ap
         (λ (t : List TreeWord). Starts line (keyword (codes "metric")) ∷ Goes (NameWord name) ∷ Goes (SignWord OpenBrace) ∷ Goes (keyword (codes "units")) ∷ Goes (QuotedWord units) ∷ Goes (SignWord Semicolon) ∷ t)
         (goes_behind (flat_map reference_words constraints) (keyword (codes "base") ∷ keyword (codes "is") ∷ choice_word (codes "timer") (codes "counter") timer ∷ initially_words initially)
         (blocks_tree_words blocks ++ (Goes (SignWord CloseBrace) ∷ []))
-        ∙ rw (goes-flat_map reference_words constraints, append_assoc (goes (initially_words initially)) (blocks_tree_words blocks) (Goes (SignWord CloseBrace) ∷ [])) refl)
+        ∙ rw (goes-flat_map reference_words constraints, append_assoc (other_words (initially_words initially)) (blocks_tree_words blocks) (Goes (SignWord CloseBrace) ∷ [])) refl)
 
 pub constraint_reads : Reads constraint_at constraint_tree_words (λ n c. BlocksShaped n c.blocks) closed
 unfolding constraint_at
@@ -142,13 +142,13 @@ constraint_reads = made (both (start_reads (codes "constraint") refl) (both name
 abbrev parent_on : Option (List ℕ) → Word → Bool
 parent_on = option_on (is_keyword (codes "parent"))
 
-parent_reads : Reads (λ n. parent_at) (λ o. goes (parent_words o)) any parent_on
-parent_reads = made (option_reads (is_keyword (codes "parent")) (λ n. named_field_at (codes "parent")) (λ name. goes (keyword (codes "parent") ∷ NameWord name ∷ SignWord Semicolon ∷ [])) any
+parent_reads : Reads (λ n. parent_at) (λ o. other_words (parent_words o)) any parent_on
+parent_reads = made (option_reads (is_keyword (codes "parent")) (λ n. named_field_at (codes "parent")) (λ name. other_words (keyword (codes "parent") ∷ NameWord name ∷ SignWord Semicolon ∷ [])) any
     (named_field_reads (codes "parent") refl) (λ n a h. refl))
-    (λ o. o) (λ n. parent_at) (λ o. goes (parent_words o)) any parent_on
+    (λ o. o) (λ n. parent_at) (λ o. other_words (parent_words o)) any parent_on
     (λ n words_ahead. bind_id (parent_at words_ahead)) tree_words (λ n a h. refl) (λ n a h. tt) back (λ n k b le h. tt)
   where
-    tree_words : (n : ℕ) (a : Option (List ℕ)) → option_ok any n a → goes (parent_words a) ≡ option_tree_words (λ name. goes (keyword (codes "parent") ∷ NameWord name ∷ SignWord Semicolon ∷ [])) a
+    tree_words : (n : ℕ) (a : Option (List ℕ)) → option_ok any n a → other_words (parent_words a) ≡ option_tree_words (λ name. other_words (keyword (codes "parent") ∷ NameWord name ∷ SignWord Semicolon ∷ [])) a
     tree_words n None h = refl
     tree_words n (Some name) h = refl
 
@@ -161,7 +161,7 @@ parent_ends None = refl
 parent_ends (Some name) = refl
 
 axis_tree_words : List (List ℕ) → List TreeWord
-axis_tree_words names = goes (keyword (codes "axes") ∷ (names_words names ++ (SignWord Semicolon ∷ [])))
+axis_tree_words names = other_words (keyword (codes "axes") ∷ (names_words names ++ (SignWord Semicolon ∷ [])))
 
 axis_names_reads : Reads (λ n. axis_names_at) axis_tree_words (plainly HasNames) closed
 unfolding axis_names_at axis_tree_words
@@ -181,17 +181,17 @@ abbrev axes_on : List (List ℕ) → Word → Bool
 axes_on [] = is_keyword (codes "axes")
 axes_on (name ∷ names) = never
 
-axes_reads : Reads (λ n. axes_at) (λ names. goes (axes_words names)) any axes_on
+axes_reads : Reads (λ n. axes_at) (λ names. other_words (axes_words names)) any axes_on
 unfolding axes_at option_at axis_tree_words
 axes_reads = made (option_reads (is_keyword (codes "axes")) (λ n. axis_names_at) axis_tree_words (plainly HasNames) axis_names_reads axis_starts)
-    listed (λ n. axes_at) (λ names. goes (axes_words names)) any axes_on
+    listed (λ n. axes_at) (λ names. other_words (axes_words names)) any axes_on
     (λ n words_ahead. same words_ahead (is_first (is_keyword (codes "axes")) words_ahead)) tree_words ons (λ n a h. tt) back (λ n k b le h. tt)
   where
     same : (words_ahead : List PlacedWord) (b : Bool) → cond b (axis_names_at words_ahead) (Ok ([], words_ahead)) ≡ (cond b (axis_names_at words_ahead >>= λ x. Ok (Some x.0, x.1)) (Ok (None, words_ahead)) >>= λ x. Ok (listed x.0, x.1))
     same words_ahead true = bind_id (axis_names_at words_ahead) ∙ sym (bind_assoc (axis_names_at words_ahead) (λ x. Ok (Some x.0, x.1)) (λ x. Ok (listed x.0, x.1)))
     same words_ahead false = refl
 
-    tree_words : (n : ℕ) (a : Option (List (List ℕ))) → option_ok (plainly HasNames) n a → goes (axes_words (listed a)) ≡ option_tree_words axis_tree_words a
+    tree_words : (n : ℕ) (a : Option (List (List ℕ))) → option_ok (plainly HasNames) n a → other_words (axes_words (listed a)) ≡ option_tree_words axis_tree_words a
     tree_words n None h = refl
     tree_words n (Some []) h = absurd h
     tree_words n (Some (name ∷ names)) h = refl
@@ -225,11 +225,11 @@ hypothesis_reads = made (both (opened_reads (codes "hypothesis") refl) (both_ope
     tree_words : (line : ℕ) (name : List ℕ) (parent : Option (List ℕ)) (metric : List ℕ) (threshold : ℕ) (axes : List (List ℕ))
         → hypothesis_tree_words (record { line = line; name = name; parent = parent; metric = metric; threshold = threshold; axes = axes })
         ≡ Starts line (keyword (codes "hypothesis")) ∷ Goes (NameWord name) ∷ Goes (SignWord OpenBrace)
-        ∷ (goes (parent_words parent) ++ (goes (keyword (codes "metric") ∷ NameWord metric ∷ SignWord Semicolon ∷ keyword (codes "threshold") ∷ NumberWord threshold ∷ SignWord Semicolon ∷ [])
-        ++ (goes (axes_words axes) ++ (Goes (SignWord CloseBrace) ∷ []))))
+        ∷ (other_words (parent_words parent) ++ (other_words (keyword (codes "metric") ∷ NameWord metric ∷ SignWord Semicolon ∷ keyword (codes "threshold") ∷ NumberWord threshold ∷ SignWord Semicolon ∷ [])
+        ++ (other_words (axes_words axes) ++ (Goes (SignWord CloseBrace) ∷ []))))
     tree_words line name parent metric threshold axes = ap (λ (t : List TreeWord). Starts line (keyword (codes "hypothesis")) ∷ Goes (NameWord name) ∷ Goes (SignWord OpenBrace) ∷ t)
         (goes-append (parent_words parent) (keyword (codes "metric") ∷ NameWord metric ∷ SignWord Semicolon ∷ keyword (codes "threshold") ∷ NumberWord threshold ∷ SignWord Semicolon ∷ (axes_words axes ++ (SignWord CloseBrace ∷ [])))
-        ∙ ap (λ (t : List TreeWord). goes (parent_words parent) ++ (goes (keyword (codes "metric") ∷ NameWord metric ∷ SignWord Semicolon ∷ keyword (codes "threshold") ∷ NumberWord threshold ∷ SignWord Semicolon ∷ []) ++ t))
+        ∙ ap (λ (t : List TreeWord). other_words (parent_words parent) ++ (other_words (keyword (codes "metric") ∷ NameWord metric ∷ SignWord Semicolon ∷ keyword (codes "threshold") ∷ NumberWord threshold ∷ SignWord Semicolon ∷ []) ++ t))
         (goes-append (axes_words axes) (SignWord CloseBrace ∷ [])))
 
 -- ---- the other items

@@ -7,7 +7,7 @@ use Rattle.pn_text.specs.declared.token.Sign.{Sign}
 use Rattle.pn_text.specs.declared.token.Sign.TheVariants.{OpenBrace, CloseBrace, OpenBracket, CloseBracket, OpenParen, CloseParen, OpenCode, CloseCode, Semicolon, Comma, PlusPlus, MinusMinus, Assign, Equal, NotEqual, Less, LessEqual, Greater, GreaterEqual}
 use Rattle.mdl_parse.specs.WordsInText.{Starts, IsWord}
 use Rattle.mdl_parse.specs.Steps.{line_at}
-use Rattle.mdl_parse.specs.Picks.{is_sign, is_arg, sign_number, when, name_of, number_of, quoted_of, path_of}
+use Rattle.mdl_parse.specs.Picks.{is_sign, is_arg, sign_number, when, name_of, word_number, quoted_of, path_of}
 use Rattle.mdl_parse.specs.Shapes.{is_keyword}
 use Rattle.mdl_parse.specs.Readers.{keyword_at, sign_at, arg_at, start_at, name_at, number_at, quoted_at, path_at}
 use Rattle.mdl_parse.specs.Grammar.{keyword}
@@ -104,12 +104,12 @@ name_picked w a e = absurd cc
 pub name_reads : Reads (λ n. name_at) (one_word NameWord) any closed
 name_reads = leaf_any name_of NameWord name_picked (λ a. refl) (97 ∷ []) refl
 
-number_picked : (w : Word) (a : ℕ) → number_of w ≡ Some a → w ≡ NumberWord a
+number_picked : (w : Word) (a : ℕ) → word_number w ≡ Some a → w ≡ NumberWord a
 number_picked (NumberWord x) a e = ap NumberWord cc
 number_picked w a e = absurd cc
 
 pub number_reads : Reads (λ n. number_at) (one_word NumberWord) any closed
-number_reads = leaf_any number_of NumberWord number_picked (λ a. refl) 0 refl
+number_reads = leaf_any word_number NumberWord number_picked (λ a. refl) 0 refl
 
 quoted_picked : (w : Word) (a : List ℕ) → quoted_of w ≡ Some a → w ≡ QuotedWord a
 quoted_picked (QuotedWord x) a e = ap QuotedWord cc

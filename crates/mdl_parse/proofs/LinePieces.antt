@@ -6,9 +6,9 @@ use Rattle.std.proofs.lemmas.List.{append_assoc, append-nil}
 use Rattle.std.proofs.lemmas.List.Folds.{list_all-append}
 use Rattle.pn_text.specs.Bytes.{is_white_space}
 use Rattle.pn_text.specs.Words.{Word, is_word}
-use Rattle.pn_text.specs.Writing.{word_text, stand_apart, written, words_in, follow, are_legible}
+use Rattle.pn_text.specs.Writing.{word_text, stand_apart, pieces_text, words_in, follow, are_legible}
 use Rattle.pn_text.proofs.Legible.{written-append, words_in-append}
-use Rattle.mdl_parse.specs.Printing.{is_tight, gap, behind_word, indent, Line, line_text}
+use Rattle.mdl_parse.specs.Printing.{is_tight, gap, text_after, indent, LevelLine, line_text}
 
 abbrev Piece : Type 0
 Piece = List ℕ × Word
@@ -29,39 +29,39 @@ abbrev pub next_gap : List ℕ → ℕ → List Word → List ℕ
 next_gap space level [] = space ++ (indent level ++ codes "\n")
 next_gap space level (w ∷ words) = codes "\n"
 
-abbrev pub pieces : List ℕ → List Line → List Piece
+abbrev pub pieces : List ℕ → List LevelLine → List Piece
 pieces space [] = []
 pieces space (line ∷ lines) = line_pieces (space ++ indent line.0) line.1 ++ pieces (next_gap space line.0 line.1) lines
 
-abbrev pub last_gap : List ℕ → List Line → List ℕ
+abbrev pub last_gap : List ℕ → List LevelLine → List ℕ
 last_gap space [] = space
 last_gap space (line ∷ lines) = last_gap (next_gap space line.0 line.1) lines
 
 -- ---- their text
 
-behind_written : (left : Word) (words : List Word) → behind_word left words ≡ written (word_pieces left words)
+behind_written : (left : Word) (words : List Word) → text_after left words ≡ pieces_text (word_pieces left words)
 behind_written left [] = refl
 behind_written left (w ∷ words) = ap (λ (t : List ℕ). gap left w ++ (word_text w ++ t)) (behind_written w words)
 
-line_written : (space : List ℕ) (level : ℕ) (words : List Word) (more : List ℕ) → space ++ (line_text (level, words) ++ more) ≡ written (line_pieces (space ++ indent level) words) ++ (next_gap space level words ++ more)
+line_written : (space : List ℕ) (level : ℕ) (words : List Word) (more : List ℕ) → space ++ (line_text (level, words) ++ more) ≡ pieces_text (line_pieces (space ++ indent level) words) ++ (next_gap space level words ++ more)
 unfolding line_text
 line_written space level [] more = sym (append_assoc space (indent level ++ codes "\n") more)
 line_written space level (w ∷ words) more =
-    let text = word_text w ++ behind_word w words in
-    let same : text ≡ word_text w ++ written (word_pieces w words) = ap (λ (t : List ℕ). word_text w ++ t) (behind_written w words) in
+    let text = word_text w ++ text_after w words in
+    let same : text ≡ word_text w ++ pieces_text (word_pieces w words) = ap (λ (t : List ℕ). word_text w ++ t) (behind_written w words) in
     ap (λ (t : List ℕ). space ++ t) (append_assoc (indent level) (text ++ codes "\n") more ∙ ap (λ (t : List ℕ). indent level ++ t) (append_assoc text (codes "\n") more))
     ∙ sym (append_assoc space (indent level) (text ++ (codes "\n" ++ more)))
     ∙ sym (append_assoc (space ++ indent level) text (codes "\n" ++ more))
     ∙ ap (λ (t : List ℕ). ((space ++ indent level) ++ t) ++ (codes "\n" ++ more)) same
 
-pub lines_written : (space : List ℕ) (lines : List Line) → space ++ flat_map line_text lines ≡ written (pieces space lines) ++ last_gap space lines
+pub lines_written : (space : List ℕ) (lines : List LevelLine) → space ++ flat_map line_text lines ≡ pieces_text (pieces space lines) ++ last_gap space lines
 lines_written space [] = append-nil space
 lines_written space (line ∷ lines) =
     let next = next_gap space line.0 line.1 in
     let first = line_pieces (space ++ indent line.0) line.1 in
     line_written space line.0 line.1 (flat_map line_text lines)
-    ∙ ap (λ (t : List ℕ). written first ++ t) (lines_written next lines)
-    ∙ sym (append_assoc (written first) (written (pieces next lines)) (last_gap next lines))
+    ∙ ap (λ (t : List ℕ). pieces_text first ++ t) (lines_written next lines)
+    ∙ sym (append_assoc (pieces_text first) (pieces_text (pieces next lines)) (last_gap next lines))
     ∙ ap (λ (t : List ℕ). t ++ last_gap next lines) (sym (written-append first (pieces next lines)))
 
 -- ---- their words
@@ -74,10 +74,10 @@ words_in_line : (space : List ℕ) (words : List Word) → words_in (line_pieces
 words_in_line space [] = refl
 words_in_line space (w ∷ words) = ap (λ (t : List Word). w ∷ t) (words_in_words w words)
 
-abbrev pub line_words : List Line → List Word
+abbrev pub line_words : List LevelLine → List Word
 line_words lines = flat_map (λ line. line.1) lines
 
-pub words_in_lines : (space : List ℕ) (lines : List Line) → words_in (pieces space lines) ≡ line_words lines
+pub words_in_lines : (space : List ℕ) (lines : List LevelLine) → words_in (pieces space lines) ≡ line_words lines
 words_in_lines space [] = refl
 words_in_lines space (line ∷ lines) =
     words_in-append (line_pieces (space ++ indent line.0) line.1) (pieces (next_gap space line.0 line.1) lines)
@@ -150,7 +150,7 @@ line_follows space (w ∷ words) rest white some e f left =
     let first = both_true (is_white space && is_word w) (nat_lt 0 (length space) || stand_apart left w) (both_true (is_white space) (is_word w) white parts.0) (or_left (nat_lt 0 (length space)) (stand_apart left w) some) in
     both_true (is_white space && is_word w && (nat_lt 0 (length space) || stand_apart left w)) (follow w (word_pieces w words ++ rest)) first (words_follow w words rest parts.1 f)
 
-lines_follow : (space : List ℕ) (lines : List Line) → is_white space ≡ true → nat_lt 0 (length space) ≡ true → list_all is_word (line_words lines) ≡ true → Follows (pieces space lines)
+lines_follow : (space : List ℕ) (lines : List LevelLine) → is_white space ≡ true → nat_lt 0 (length space) ≡ true → list_all is_word (line_words lines) ≡ true → Follows (pieces space lines)
 lines_follow space [] white some e left = refl
 lines_follow space (line ∷ lines) white some e left =
     let parts = and_parts (list_all is_word line.1) (list_all is_word (line_words lines)) (sym (list_all-append is_word line.1 (line_words lines)) ∙ e) in
@@ -175,13 +175,13 @@ line_legible space (w ∷ words) rest white e f =
     let parts = and_parts (is_word w) (list_all is_word words) e in
     both_true (is_white space && is_word w) (follow w (word_pieces w words ++ rest)) (both_true (is_white space) (is_word w) white parts.0) (words_follow w words rest parts.1 f)
 
-pub lines_legible : (lines : List Line) → list_all is_word (line_words lines) ≡ true → are_legible (pieces [] lines) ≡ true
+pub lines_legible : (lines : List LevelLine) → list_all is_word (line_words lines) ≡ true → are_legible (pieces [] lines) ≡ true
 lines_legible [] e = refl
 lines_legible (line ∷ lines) e =
     let parts = and_parts (list_all is_word line.1) (list_all is_word (line_words lines)) (sym (list_all-append is_word line.1 (line_words lines)) ∙ e) in
     line_legible (indent line.0) line.1 (pieces (next_gap [] line.0 line.1) lines) (indent_white line.0) parts.0
     (lines_follow (next_gap [] line.0 line.1) lines (next_white [] line.0 line.1 refl) (next_some [] line.0 line.1) parts.1)
 
-pub last_white : (space : List ℕ) (lines : List Line) → is_white space ≡ true → is_white (last_gap space lines) ≡ true
+pub last_white : (space : List ℕ) (lines : List LevelLine) → is_white space ≡ true → is_white (last_gap space lines) ≡ true
 last_white space [] e = e
 last_white space (line ∷ lines) e = last_white (next_gap space line.0 line.1) lines (next_white space line.0 line.1 e)

@@ -8,9 +8,9 @@ use Rattle.pn_text.specs.declared.token.Sign.TheVariants.{OpenBrace, Semicolon}
 use Rattle.mdl_ast.specs.declared.items.Hypothesis.{Hypothesis}
 use Rattle.mdl_parse.specs.Grammar.{keyword}
 use Rattle.mdl_parse.specs.ItemGrammar.{parent_words, axes_words}
-use Rattle.mdl_parse.specs.Printing.{Line, indent, line_text, close_line, some_line, hypothesis_lines}
+use Rattle.mdl_parse.specs.Printing.{LevelLine, indent, line_text, close_line, some_line, hypothesis_lines}
 
-pub lines_text : (a b : List Line) → flat_map line_text (a ++ b) ≡ flat_map line_text a ++ flat_map line_text b
+pub lines_text : (a b : List LevelLine) → flat_map line_text (a ++ b) ≡ flat_map line_text a ++ flat_map line_text b
 lines_text a b = flat_map-append line_text a b
 
 -- the texts, one after the other

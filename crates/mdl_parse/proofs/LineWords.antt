@@ -13,14 +13,14 @@ use Rattle.mdl_ast.specs.declared.metric.Constraint.{Constraint}
 use Rattle.mdl_ast.specs.declared.items.Hypothesis.{Hypothesis}
 use Rattle.mdl_ast.specs.declared.items.Item.{Item}
 use Rattle.mdl_ast.specs.declared.items.Item.TheVariants as item
-use Rattle.mdl_parse.specs.WordsInText.{TreeWord, goes, starts}
+use Rattle.mdl_parse.specs.WordsInText.{TreeWord, other_words, starts}
 use Rattle.mdl_parse.specs.Grammar.{keyword, statement_words, statement_tree_words, insertion_head, insertion_tree_words, block_head, block_tree_words, blocks_tree_words}
 use Rattle.mdl_parse.specs.ItemGrammar.{reference_words, initially_words, metric_head, metric_tree_words, constraint_head, constraint_tree_words, parent_words, axes_words, hypothesis_words, include_words, sync_words, search_words, phase_words, wish_words, item_tree_words}
-use Rattle.mdl_parse.specs.Printing.{Line, reference_line, insertion_line, close_line, block_lines, base_words, metric_lines, constraint_lines, some_line, hypothesis_lines, item_lines}
+use Rattle.mdl_parse.specs.Printing.{LevelLine, reference_line, insertion_line, close_line, block_lines, base_words, metric_lines, constraint_lines, some_line, hypothesis_lines, item_lines}
 use Rattle.mdl_parse.proofs.Relining.{plain_words, goes_words, starts_words, plain_words-append}
 use Rattle.mdl_parse.proofs.LinePieces.{line_words}
 
-pub line_words-append : (a b : List Line) → line_words (a ++ b) ≡ line_words a ++ line_words b
+pub line_words-append : (a b : List LevelLine) → line_words (a ++ b) ≡ line_words a ++ line_words b
 line_words-append a b = flat_map-append (λ line. line.1) a b
 
 -- ---- statements, insertions and blocks
@@ -32,11 +32,11 @@ statements_same (s ∷ stmts) =
     ∙ ap₂ (λ (x y : List Word). x ++ y) (starts_words s.line (statement_words s)) (statements_same stmts)
 
 -- a head, parts, and words that close
-around_same : (line : ℕ) (head : List Word) (inner : List TreeWord) (words close : List Word) → plain_words inner ≡ words → plain_words (starts line head ++ (inner ++ goes close)) ≡ head ++ (words ++ close)
+around_same : (line : ℕ) (head : List Word) (inner : List TreeWord) (words close : List Word) → plain_words inner ≡ words → plain_words (starts line head ++ (inner ++ other_words close)) ≡ head ++ (words ++ close)
 around_same line head inner words close e =
-    plain_words-append (starts line head) (inner ++ goes close)
+    plain_words-append (starts line head) (inner ++ other_words close)
     ∙ ap₂ (λ (x y : List Word). x ++ y) (starts_words line head)
-    (plain_words-append inner (goes close) ∙ ap₂ (λ (x y : List Word). x ++ y) e (goes_words close))
+    (plain_words-append inner (other_words close) ∙ ap₂ (λ (x y : List Word). x ++ y) e (goes_words close))
 
 insertions_same : (level : ℕ) (insertions : List Insertion) → line_words (map (insertion_line level) insertions) ≡ plain_words (flat_map insertion_tree_words insertions)
 insertions_same level [] = refl
@@ -69,7 +69,7 @@ close_brace = SignWord CloseBrace ∷ []
 
 blocks_tree_same : (blocks : List Block) → plain_words (blocks_tree_words blocks) ≡ open_brace ++ (plain_words (flat_map block_tree_words blocks) ++ close_brace)
 blocks_tree_same blocks = ap (λ (t : List Word). open_brace ++ t)
-    (plain_words-append (flat_map block_tree_words blocks) (goes close_brace) ∙ ap (λ (t : List Word). plain_words (flat_map block_tree_words blocks) ++ t) (goes_words close_brace))
+    (plain_words-append (flat_map block_tree_words blocks) (other_words close_brace) ∙ ap (λ (t : List Word). plain_words (flat_map block_tree_words blocks) ++ t) (goes_words close_brace))
 
 references_same : (names : List (List ℕ)) → line_words (map reference_line names) ≡ flat_map reference_words names
 references_same [] = refl
@@ -112,7 +112,7 @@ some_same level (w ∷ words) = append-nil (w ∷ words)
 
 hypothesis_same : (h : Hypothesis) → line_words (hypothesis_lines h) ≡ hypothesis_words h
 hypothesis_same h =
-    let tested : List Line = (1, keyword (codes "metric") ∷ NameWord h.metric ∷ SignWord Semicolon ∷ []) ∷ (1, keyword (codes "threshold") ∷ NumberWord h.threshold ∷ SignWord Semicolon ∷ []) ∷ [] in
+    let tested : List LevelLine = (1, keyword (codes "metric") ∷ NameWord h.metric ∷ SignWord Semicolon ∷ []) ∷ (1, keyword (codes "threshold") ∷ NumberWord h.threshold ∷ SignWord Semicolon ∷ []) ∷ [] in
     let ends = some_line 1 (axes_words h.axes) ++ (close_line 0 ∷ []) in
     ap (λ (t : List Word). (keyword (codes "hypothesis") ∷ NameWord h.name ∷ SignWord OpenBrace ∷ []) ++ t)
     (line_words-append (some_line 1 (parent_words h.parent)) (tested ++ ends)

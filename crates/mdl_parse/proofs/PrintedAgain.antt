@@ -2,9 +2,9 @@
 use Rattle.std.proofs.Common.{◌≡◌, ℕ, true, List, [], ◌∷◌, ◌++◌, map, refl, sym, ap, subst, ◌∙◌}
 use Rattle.std.specs.List.{flat_map, list_all}
 use Rattle.pn_text.specs.Words.{Word, is_word, word_of, words_of, Reads}
-use Rattle.pn_text.specs.Writing.{written}
+use Rattle.pn_text.specs.Writing.{pieces_text}
 use Rattle.pn_text.specs.Scans.{tokens_of}
-use Rattle.pn_text.specs.Places.{first_place, behind_bytes}
+use Rattle.pn_text.specs.Places.{first_place, after_bytes}
 use Rattle.pn_text.specs.declared.place.Place.{Place}
 use Rattle.pn_text.specs.declared.token.Token.{Token}
 use Rattle.pn_text.proofs.Legible.{legible_reads}
@@ -51,10 +51,10 @@ conf_reads c are =
     let lines = flat_map item_lines c.items in
     let same : line_words lines ≡ plain_words (conf_tree_words c) = items_same c.items in
     let words = ap (list_all is_word) same ∙ are in
-    let text = written (pieces [] lines) ++ last_gap [] lines in
+    let text = pieces_text (pieces [] lines) ++ last_gap [] lines in
     let whole : flat_map line_text lines ≡ text = lines_written [] lines in
     let reads = legible_reads (pieces [] lines) (last_gap [] lines) (lines_legible lines words) (last_white [] lines refl) in
-    let last = behind_bytes first_place text in
+    let last = after_bytes first_place text in
     let all : Reads text (tokens_of text) (plain_words (conf_tree_words c)) last = subst (λ (ws : List Word). Reads text (tokens_of text) ws last) (words_in_lines [] lines ∙ same) reads in
     (last, subst (λ (t : List ℕ). Reads t (tokens_of t) (plain_words (conf_tree_words c)) last) (sym whole) all)
 

@@ -4,7 +4,7 @@ use Rattle.std.proofs.lemmas.List.{append_assoc, append-nil}
 use Rattle.pn_text.specs.Words.{Word}
 use Rattle.mdl_parse.specs.WordsInText.{IsWord}
 use Rattle.mdl_parse.specs.WordsInText.{PlacedWord, AreWords, TreeWord, Goes, Spells}
-use Rattle.mdl_parse.specs.Steps.{Stop, Read, ◌>>=◌, stop, taken, leaf_at}
+use Rattle.mdl_parse.specs.Steps.{Stop, Read, ◌>>=◌, stop, some_read, leaf_at}
 use Rattle.mdl_parse.specs.declared.refusal.Refusal.{Refusal}
 use Rattle.mdl_parse.specs.declared.refusal.Refusal.TheVariants.{Unexpected, TooDeep}
 use Rattle.mdl_parse.proofs.Rules.{AreTreeWords, all_placed_as, placed_spell, placed_are_words, AreWords-append, AreTreeWords-append, Spells-append, Spells-parted, Misses, never, Misses-never, Misses-same, StartsAs, is_first-spelled, bind_ok, bind_err, bind_same, ok_is, err_is, Misses-first}
@@ -204,7 +204,7 @@ module _ {A : Type 0} (pick : Word → Option A) (word : A → Word) (ok : A →
   leaf_sound n [] v rest e = absurd cc
   leaf_sound n (placed ∷ words_ahead) v rest e = go (pick placed.word) refl e
     where
-      go : (o : Option A) → pick placed.word ≡ o → taken o (placed ∷ words_ahead) ≡ Ok (v, rest) → Reads_ (one word) (plainly ok) closed n (placed ∷ words_ahead) v rest
+      go : (o : Option A) → pick placed.word ≡ o → some_read o (placed ∷ words_ahead) ≡ Ok (v, rest) → Reads_ (one word) (plainly ok) closed n (placed ∷ words_ahead) v rest
       go None p e = absurd cc
       go (Some a) p e =
           let made : Reads_ (one word) (plainly ok) closed n (placed ∷ words_ahead) a words_ahead = record { front = placed ∷ []; split = refl; spelled = ((picked placed.word a p).0, tt); shaped = (picked placed.word a p).1; ends = Misses-never words_ahead } in
@@ -231,7 +231,7 @@ module _ {A : Type 0} (pick : Word → Option A) (word : A → Word) (ok : A →
   })
   leaf_fails n (placed ∷ words_ahead) s e = go (pick placed.word) refl e
     where
-      go : (o : Option A) → pick placed.word ≡ o → taken o (placed ∷ words_ahead) ≡ Err s → Fails (λ n. leaf_at pick) (one word) (plainly ok) n (placed ∷ words_ahead) s
+      go : (o : Option A) → pick placed.word ≡ o → some_read o (placed ∷ words_ahead) ≡ Err s → Fails (λ n. leaf_at pick) (one word) (plainly ok) n (placed ∷ words_ahead) s
       go None p e = subst (Fails (λ n. leaf_at pick) (one word) (plainly ok) n (placed ∷ words_ahead)) (err_is {A = A} (stop Unexpected (placed ∷ words_ahead)) s e) (record {
         used = [];
         split = refl;

@@ -8,7 +8,7 @@ use Rattle.mdl_ast.specs.declared.block.Insertion.{Insertion}
 use Rattle.mdl_ast.specs.declared.block.Block.{Block}
 use Rattle.mdl_ast.specs.declared.metric.Constraint.{Constraint}
 use Rattle.mdl_ast.specs.declared.items.Item.TheVariants as item
-use Rattle.mdl_parse.specs.WordsInText.{PlacedWord, TreeWord, goes, starts, Spells}
+use Rattle.mdl_parse.specs.WordsInText.{PlacedWord, TreeWord, other_words, starts, Spells}
 use Rattle.mdl_parse.specs.Steps.{line_at}
 use Rattle.mdl_parse.specs.Grammar.{statement_words, statement_tree_words, insertion_head, insertion_tree_words, block_head, block_tree_words, blocks_tree_words}
 use Rattle.mdl_parse.specs.ItemGrammar.{metric_head, metric_tree_words, constraint_head, constraint_tree_words, hypothesis_words, include_words, sync_words, search_words, phase_words, wish_words, item_tree_words}
@@ -28,18 +28,18 @@ statement_relined s front e = record {
 -- ---- a head, parts, and words that close
 
 abbrev around : ℕ → List Word → List TreeWord → List Word → List TreeWord
-around line head inner close = starts line head ++ (inner ++ goes close)
+around line head inner close = starts line head ++ (inner ++ other_words close)
 
 around_words : (line : ℕ) (head : List Word) (inner : List TreeWord) (close : List Word) → plain_words (around line head inner close) ≡ head ++ (plain_words inner ++ close)
 around_words line head inner close =
-    plain_words-append (starts line head) (inner ++ goes close)
+    plain_words-append (starts line head) (inner ++ other_words close)
     ∙ ap₂ (λ (x y : List Word). x ++ y) (starts_words line head)
-    (plain_words-append inner (goes close) ∙ ap (λ (t : List Word). plain_words inner ++ t) (goes_words close))
+    (plain_words-append inner (other_words close) ∙ ap (λ (t : List Word). plain_words inner ++ t) (goes_words close))
 
 around_spelled : (head : List Word) (inner : List TreeWord) (close : List Word) (f g h : List PlacedWord) → words_at f ≡ head → Spells inner g → words_at h ≡ close → Spells (around (line_at f) head inner close) (f ++ (g ++ h))
 around_spelled head inner close f g h first spelled last =
-    Spells-append (starts (line_at f) head) (inner ++ goes close) f (g ++ h) (starts_spelled head f first)
-    (Spells-append inner (goes close) g h spelled (goes_spelled close h last))
+    Spells-append (starts (line_at f) head) (inner ++ other_words close) f (g ++ h) (starts_spelled head f first)
+    (Spells-append inner (other_words close) g h spelled (goes_spelled close h last))
 
 insertion_relined : Relines insertion_tree_words insertion_but_lines InsertionShaped
 insertion_relined i front e =
@@ -83,7 +83,7 @@ close_brace = SignWord CloseBrace ∷ []
 
 blocks_words : (blocks : List Block) → plain_words (blocks_tree_words blocks) ≡ open_brace ++ (plain_words (flat_map block_tree_words blocks) ++ close_brace)
 blocks_words blocks = ap (λ (t : List Word). open_brace ++ t)
-    (plain_words-append (flat_map block_tree_words blocks) (goes close_brace) ∙ ap (λ (t : List Word). plain_words (flat_map block_tree_words blocks) ++ t) (goes_words close_brace))
+    (plain_words-append (flat_map block_tree_words blocks) (other_words close_brace) ∙ ap (λ (t : List Word). plain_words (flat_map block_tree_words blocks) ++ t) (goes_words close_brace))
 
 blocks_relined : Relines blocks_tree_words (map block_but_lines) BlocksShaped
 blocks_relined blocks front e =
@@ -95,8 +95,8 @@ blocks_relined blocks front e =
     record {
       again = x.again;
       spelled = subst (Spells (blocks_tree_words x.again)) (sym whole)
-          (Spells-append (goes open_brace) (flat_map block_tree_words x.again ++ goes close_brace) h.first (k.first ++ k.second) (goes_spelled open_brace h.first h.first_words)
-          (Spells-append (flat_map block_tree_words x.again) (goes close_brace) k.first k.second x.spelled (goes_spelled close_brace k.second k.second_words)));
+          (Spells-append (other_words open_brace) (flat_map block_tree_words x.again ++ other_words close_brace) h.first (k.first ++ k.second) (goes_spelled open_brace h.first h.first_words)
+          (Spells-append (flat_map block_tree_words x.again) (other_words close_brace) k.first k.second x.spelled (goes_spelled close_brace k.second k.second_words)));
       same = x.same;
       shaped = x.shaped;
     }

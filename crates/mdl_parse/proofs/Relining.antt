@@ -3,7 +3,7 @@ use Rattle.std.proofs.Common.{◌≡◌, ℕ, List, [], ◌∷◌, ◌++◌, map
 use Rattle.std.specs.List.{flat_map, AllByRecursion}
 use Rattle.std.proofs.lemmas.List.{map-append}
 use Rattle.pn_text.specs.Words.{Word}
-use Rattle.mdl_parse.specs.WordsInText.{PlacedWord, TreeWord, plain_word, goes, starts, Spells}
+use Rattle.mdl_parse.specs.WordsInText.{PlacedWord, TreeWord, plain_word, other_words, starts, Spells}
 use Rattle.mdl_parse.specs.Steps.{line_at}
 use Rattle.mdl_parse.proofs.Rules.{Spells-append}
 
@@ -15,7 +15,7 @@ plain_words tree_words = map plain_word tree_words
 
 -- ---- the words of tree words
 
-pub goes_words : (words : List Word) → plain_words (goes words) ≡ words
+pub goes_words : (words : List Word) → plain_words (other_words words) ≡ words
 goes_words [] = refl
 goes_words (w ∷ words) = ap (λ (t : List Word). w ∷ t) (goes_words words)
 
@@ -28,7 +28,7 @@ plain_words-append a b = map-append plain_word a b
 
 -- ---- single parts
 
-pub goes_spelled : (words : List Word) (front : List PlacedWord) → words_at front ≡ words → Spells (goes words) front
+pub goes_spelled : (words : List Word) (front : List PlacedWord) → words_at front ≡ words → Spells (other_words words) front
 goes_spelled [] [] e = tt
 goes_spelled [] (s ∷ front) e = absurd cc
 goes_spelled (w ∷ words) [] e = absurd cc

@@ -12,7 +12,7 @@ use Rattle.mdl_ast.specs.declared.items.Conf.{Conf}
 use Rattle.mdl_ast.specs.declared.items.Item.{Item}
 use Rattle.mdl_ast.specs.declared.items.Item.TheVariants as item
 use Rattle.mdl_parse.specs.Grammar.{statement_words, insertion_head, block_head}
-use Rattle.mdl_parse.specs.Printing.{Line, line_text, insertion_line, close_line, block_lines, metric_lines, constraint_lines, item_lines, conf_text}
+use Rattle.mdl_parse.specs.Printing.{LevelLine, line_text, insertion_line, close_line, block_lines, metric_lines, constraint_lines, item_lines, conf_text}
 use Rattle.mdl_parse.specs.ButLines.{statement_but_line, insertion_but_lines, block_but_lines, metric_but_lines, constraint_but_lines, item_but_lines, but_lines}
 
 statements_same : (stmts : List Statement) → flat_map statement_words (map statement_but_line stmts) ≡ flat_map statement_words stmts
@@ -22,12 +22,12 @@ statements_same (s ∷ stmts) = ap (λ (t : List Word). statement_words s ++ t) 
 insertions_same : (level : ℕ) (insertions : List Insertion) → map (insertion_line level) (map insertion_but_lines insertions) ≡ map (insertion_line level) insertions
 insertions_same level [] = refl
 insertions_same level (i ∷ insertions) =
-    ap₂ (λ (t : List Word) (ls : List Line). (level, insertion_head i ++ (t ++ (SignWord CloseCode ∷ []))) ∷ ls) (statements_same i.stmts) (insertions_same level insertions)
+    ap₂ (λ (t : List Word) (ls : List LevelLine). (level, insertion_head i ++ (t ++ (SignWord CloseCode ∷ []))) ∷ ls) (statements_same i.stmts) (insertions_same level insertions)
 
 blocks_same : (level : ℕ) (blocks : List Block) → flat_map (block_lines level) (map block_but_lines blocks) ≡ flat_map (block_lines level) blocks
 blocks_same level [] = refl
 blocks_same level (b ∷ blocks) =
-    ap₂ (λ (x y : List Line). ((level, block_head b) ∷ (x ++ (close_line level ∷ []))) ++ y) (insertions_same (level + 1) b.insertions) (blocks_same level blocks)
+    ap₂ (λ (x y : List LevelLine). ((level, block_head b) ∷ (x ++ (close_line level ∷ []))) ++ y) (insertions_same (level + 1) b.insertions) (blocks_same level blocks)
 
 item_same : (i : Item) → item_lines (item_but_lines i) ≡ item_lines i
 item_same (item.Include i) = refl
@@ -47,7 +47,7 @@ item_same (item.Wish w) = refl
 
 items_same : (items : List Item) → flat_map item_lines (map item_but_lines items) ≡ flat_map item_lines items
 items_same [] = refl
-items_same (i ∷ items) = ap₂ (λ (x y : List Line). x ++ y) (item_same i) (items_same items)
+items_same (i ∷ items) = ap₂ (λ (x y : List LevelLine). x ++ y) (item_same i) (items_same items)
 
 pub conf_text-but_lines : (c : Conf) → conf_text (but_lines c) ≡ conf_text c
 unfolding conf_text

@@ -15,7 +15,7 @@ use Rattle.mdl_ast.specs.declared.block.Insertion.{Insertion}
 use Rattle.mdl_ast.specs.declared.items.Conf.{Conf}
 use Rattle.mdl_ast.specs.declared.items.Item.{Item}
 use Rattle.mdl_ast.specs.declared.items.Item.TheVariants as item
-use Rattle.mdl_parse.specs.WordsInText.{PlacedWord, TreeWord, Starts, Goes, IsWord, AreWords, Spells, plain_word, goes, starts, placed_words}
+use Rattle.mdl_parse.specs.WordsInText.{PlacedWord, TreeWord, Starts, Goes, IsWord, AreWords, Spells, plain_word, other_words, starts, placed_words}
 use Rattle.mdl_parse.specs.Grammar.{left_words, right_word, condition_words, action_words, statement_words, statement_tree_words, insertion_head, insertion_tree_words, block_head, block_tree_words, blocks_tree_words}
 use Rattle.mdl_parse.specs.ItemGrammar.{metric_head, constraint_head, item_tree_words, conf_tree_words}
 use Rattle.mdl_parse.specs.Meaning.{IsConf}
@@ -55,7 +55,7 @@ each_alone P f R one (x ∷ xs) h = (one x (front P (f x) (flat_map f xs) h), ea
 
 -- ---- statements
 
-goes_words : (words : List Word) → AllByRecursion TreeWordIsWord (goes words) → AllByRecursion IsWord words
+goes_words : (words : List Word) → AllByRecursion TreeWordIsWord (other_words words) → AllByRecursion IsWord words
 goes_words [] h = tt
 goes_words (word ∷ words) h = (h.0, goes_words words h.1)
 

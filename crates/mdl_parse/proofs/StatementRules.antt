@@ -5,7 +5,7 @@ use Rattle.pn_text.specs.Words.{Word}
 use Rattle.mdl_ast.specs.declared.action.Condition.{Condition}
 use Rattle.mdl_ast.specs.declared.action.Action.{Action}
 use Rattle.mdl_ast.specs.declared.action.Action.TheVariants as act
-use Rattle.mdl_parse.specs.WordsInText.{PlacedWord, TreeWord, Goes, goes, starts}
+use Rattle.mdl_parse.specs.WordsInText.{PlacedWord, TreeWord, Goes, other_words, starts}
 use Rattle.mdl_parse.specs.Steps.{Read, ◌>>=◌}
 use Rattle.mdl_parse.specs.Parts.{conditions_at, statement_at}
 use Rattle.mdl_parse.specs.Grammar.{condition_words, action_words, statement_tree_words}
@@ -19,17 +19,17 @@ use Rattle.mdl_parse.proofs.ActionRules.{action_tree_words, opening_action_at, a
 
 -- ---- statements
 
-pub goes-append : (a b : List Word) → goes (a ++ b) ≡ goes a ++ goes b
+pub goes-append : (a b : List Word) → other_words (a ++ b) ≡ other_words a ++ other_words b
 goes-append [] b = refl
 goes-append (x ∷ a) b = ap (λ (t : List TreeWord). Goes x ∷ t) (goes-append a b)
 
-pub starts-goes : (line : ℕ) (words : List Word) → starts line words ≡ on_line line (goes words)
+pub starts-goes : (line : ℕ) (words : List Word) → starts line words ≡ on_line line (other_words words)
 starts-goes line [] = refl
 starts-goes line (x ∷ words) = refl
 
-pub goes-flat_map : {A : Type 0} (words : A → List Word) (parts : List A) → goes (flat_map words parts) ≡ flat_map (λ a. goes (words a)) parts
+pub goes-flat_map : {A : Type 0} (words : A → List Word) (parts : List A) → other_words (flat_map words parts) ≡ flat_map (λ a. other_words (words a)) parts
 goes-flat_map words [] = refl
-goes-flat_map words (a ∷ parts) = goes-append (words a) (flat_map words parts) ∙ ap (λ (t : List TreeWord). goes (words a) ++ t) (goes-flat_map words parts)
+goes-flat_map words (a ∷ parts) = goes-append (words a) (flat_map words parts) ∙ ap (λ (t : List TreeWord). other_words (words a) ++ t) (goes-flat_map words parts)
 
 statement_unlined : (conds : List Condition) (a : Action) → IsUnlined (flat_map condition_tree_words conds ++ action_tree_words a)
 statement_unlined [] (act.Up var) = tt

@@ -6,10 +6,10 @@ use Rattle.mdl_ast.specs.declared.action.Action.TheVariants as act
 use Rattle.mdl_parse.specs.declared.change.Change.{Change}
 use Rattle.mdl_parse.specs.declared.change.Change.TheVariants.{Up, Down, Put}
 
-abbrev pub changed : VarName → Change → Action
-changed var Up = act.Up var
-changed var Down = act.Down var
-changed var (Put n) = act.Put var n
+abbrev pub action_of_change : VarName → Change → Action
+action_of_change var Up = act.Up var
+action_of_change var Down = act.Down var
+action_of_change var (Put n) = act.Put var n
 
 abbrev pub timed : Bool → VarName → Action
 timed true var = act.Start var

@@ -18,9 +18,9 @@ Stops NoMemory rest read = Unit {0}
 Stops (Refused why) rest read = read ≡ Err (stop why rest)
 
 -- it returns what was read, and leaves what is left
-abbrev pub Gives : {A : Type 0} → Result A Refused_or_memory → List PlacedWord → Read A → Type 0
-Gives (Ok a) rest read = read ≡ Ok (a, rest)
-Gives (Err e) rest read = Stops e rest read
+abbrev pub IsReadResult : {A : Type 0} → Result A Refused_or_memory → List PlacedWord → Read A → Type 0
+IsReadResult (Ok a) rest read = read ≡ Ok (a, rest)
+IsReadResult (Err e) rest read = Stops e rest read
 
 -- the word that is in view
 abbrev pub word_seen : Seen → Word

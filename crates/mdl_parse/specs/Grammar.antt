@@ -22,7 +22,7 @@ use Rattle.mdl_ast.specs.declared.block.EventKind.{EventKind}
 use Rattle.mdl_ast.specs.declared.block.EventKind.TheVariants.{Entry, After, Return, Call}
 use Rattle.mdl_ast.specs.declared.block.Insertion.{Insertion}
 use Rattle.mdl_ast.specs.declared.block.Block.{Block}
-use Rattle.mdl_parse.specs.WordsInText.{TreeWord, goes, starts}
+use Rattle.mdl_parse.specs.WordsInText.{TreeWord, other_words, starts}
 
 -- a keyword
 abbrev pub keyword : List ℕ → Word
@@ -91,7 +91,7 @@ insertion_head i =
     ∷ (flag_words (codes "constrained") i.constrained ++ (SignWord OpenCode ∷ []))
 
 abbrev pub insertion_tree_words : Insertion → List TreeWord
-insertion_tree_words i = starts i.line (insertion_head i) ++ (flat_map statement_tree_words i.stmts ++ goes (SignWord CloseCode ∷ []))
+insertion_tree_words i = starts i.line (insertion_head i) ++ (flat_map statement_tree_words i.stmts ++ other_words (SignWord CloseCode ∷ []))
 
 abbrev pub set_words : Set → List Word
 set_words Focus = DollarFocus ∷ []
@@ -102,8 +102,8 @@ abbrev pub block_head : Block → List Word
 block_head b = keyword (codes "foreach") ∷ keyword (codes "func") ∷ keyword (codes "in") ∷ (set_words b.set ++ (SignWord OpenBrace ∷ []))
 
 abbrev pub block_tree_words : Block → List TreeWord
-block_tree_words b = starts b.line (block_head b) ++ (flat_map insertion_tree_words b.insertions ++ goes (SignWord CloseBrace ∷ []))
+block_tree_words b = starts b.line (block_head b) ++ (flat_map insertion_tree_words b.insertions ++ other_words (SignWord CloseBrace ∷ []))
 
 -- the blocks of a metric or a constraint
 abbrev pub blocks_tree_words : List Block → List TreeWord
-blocks_tree_words blocks = goes (SignWord OpenBrace ∷ []) ++ (flat_map block_tree_words blocks ++ goes (SignWord CloseBrace ∷ []))
+blocks_tree_words blocks = other_words (SignWord OpenBrace ∷ []) ++ (flat_map block_tree_words blocks ++ other_words (SignWord CloseBrace ∷ []))

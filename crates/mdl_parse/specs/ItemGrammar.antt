@@ -14,7 +14,7 @@ use Rattle.mdl_ast.specs.declared.items.PhaseDecl.{PhaseDecl}
 use Rattle.mdl_ast.specs.declared.items.Wish.{Wish}
 use Rattle.mdl_ast.specs.declared.metric.Metric.{Metric}
 use Rattle.mdl_ast.specs.declared.metric.Constraint.{Constraint}
-use Rattle.mdl_parse.specs.WordsInText.{TreeWord, goes, starts}
+use Rattle.mdl_parse.specs.WordsInText.{TreeWord, other_words, starts}
 use Rattle.mdl_parse.specs.Grammar.{keyword, names_words, blocks_tree_words}
 
 -- ---- metrics and constraints
@@ -34,7 +34,7 @@ metric_head m =
     ∷ initially_words m.initially))
 
 abbrev pub metric_tree_words : Metric → List TreeWord
-metric_tree_words m = starts m.line (metric_head m) ++ (blocks_tree_words m.blocks ++ goes (SignWord CloseBrace ∷ []))
+metric_tree_words m = starts m.line (metric_head m) ++ (blocks_tree_words m.blocks ++ other_words (SignWord CloseBrace ∷ []))
 
 abbrev pub constraint_head : Constraint → List Word
 constraint_head c =

@@ -73,9 +73,9 @@ abbrev pub Faults : List ℕ → ParseFault → Type 0
 Faults text fault = IsFault text fault.line fault.col fault.kind
 
 -- why a call was refused; running out of memory is always allowed
-abbrev pub Refuses : ParseError → (ParseFault → Type 0) → Type 0
-Refuses (error.Fault fault) why = why fault
-Refuses error.NoMemory why = Unit {0}
+abbrev pub ParseRefuses : ParseError → (ParseFault → Type 0) → Type 0
+ParseRefuses (error.Fault fault) why = why fault
+ParseRefuses error.NoMemory why = Unit {0}
 
 -- ---- a text has one meaning
 

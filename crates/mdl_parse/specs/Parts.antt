@@ -13,7 +13,7 @@ use Rattle.mdl_ast.specs.declared.block.Insertion.{Insertion}
 use Rattle.mdl_ast.specs.declared.block.Block.{Block}
 use Rattle.mdl_parse.specs.declared.change.Change.{Change}
 use Rattle.mdl_parse.specs.declared.change.Change.TheVariants.{Put}
-use Rattle.mdl_parse.specs.Actions.{changed, timed}
+use Rattle.mdl_parse.specs.Actions.{action_of_change, timed}
 use Rattle.mdl_parse.specs.WordsInText.{PlacedWord}
 use Rattle.mdl_parse.specs.Picks.{is_sign, is_arg, is_var, is_insertion}
 use Rattle.mdl_parse.specs.Shapes.{is_keyword, is_if, is_timing}
@@ -67,7 +67,7 @@ changed_at words_ahead = do
   var ← var_at words_ahead
   change ← change_at var.1
   end ← sign_at Semicolon change.1
-  Ok (changed var.0 change.0, end.1)
+  Ok (action_of_change var.0 change.0, end.1)
 
 unfoldable pub timed_at : List PlacedWord → Read Action
 timed_at words_ahead = do

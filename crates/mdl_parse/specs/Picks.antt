@@ -63,9 +63,9 @@ abbrev pub name_of : Word → Option (List ℕ)
 name_of (NameWord name) = Some name
 name_of word = None
 
-abbrev pub number_of : Word → Option ℕ
-number_of (NumberWord n) = Some n
-number_of word = None
+abbrev pub word_number : Word → Option ℕ
+word_number (NumberWord n) = Some n
+word_number word = None
 
 abbrev pub quoted_of : Word → Option (List ℕ)
 quoted_of (QuotedWord text) = Some text

@@ -57,14 +57,14 @@ unfoldable pub gap : Word → Word → List ℕ
 gap left right = if is_tight left right && stand_apart left right then [] else codes " "
 
 -- the words of a line that stand after a word
-abbrev pub behind_word : Word → List Word → List ℕ
-behind_word left [] = []
-behind_word left (word ∷ words) = gap left word ++ (word_text word ++ behind_word word words)
+abbrev pub text_after : Word → List Word → List ℕ
+text_after left [] = []
+text_after left (word ∷ words) = gap left word ++ (word_text word ++ text_after word words)
 
 -- the words of a line
 abbrev pub words_text : List Word → List ℕ
 words_text [] = []
-words_text (word ∷ words) = word_text word ++ behind_word word words
+words_text (word ∷ words) = word_text word ++ text_after word words
 
 -- two spaces for each level
 abbrev pub indent : ℕ → List ℕ
@@ -72,21 +72,21 @@ indent zero = []
 indent (suc level) = codes "  " ++ indent level
 
 -- a line: its level, and its words
-abbrev pub Line : Type 0
-Line = ℕ × List Word
+abbrev pub LevelLine : Type 0
+LevelLine = ℕ × List Word
 
-unfoldable pub line_text : Line → List ℕ
+unfoldable pub line_text : LevelLine → List ℕ
 line_text line = indent line.0 ++ (words_text line.1 ++ codes "\n")
 
 -- ---- the lines of each part
 
-abbrev pub insertion_line : ℕ → Insertion → Line
+abbrev pub insertion_line : ℕ → Insertion → LevelLine
 insertion_line level i = (level, insertion_head i ++ (flat_map statement_words i.stmts ++ (SignWord CloseCode ∷ [])))
 
-abbrev pub close_line : ℕ → Line
+abbrev pub close_line : ℕ → LevelLine
 close_line level = (level, SignWord CloseBrace ∷ [])
 
-abbrev pub block_lines : ℕ → Block → List Line
+abbrev pub block_lines : ℕ → Block → List LevelLine
 block_lines level b = (level, block_head b) ∷ (map (insertion_line (level + 1)) b.insertions ++ (close_line level ∷ []))
 
 abbrev pub base_words : Metric → List Word
@@ -94,25 +94,25 @@ base_words m =
     keyword (codes "base") ∷ keyword (codes "is") ∷ keyword (if m.timer then codes "timer" else codes "counter")
     ∷ (initially_words m.initially ++ (SignWord OpenBrace ∷ []))
 
-abbrev pub reference_line : List ℕ → Line
+abbrev pub reference_line : List ℕ → LevelLine
 reference_line name = (1, reference_words name)
 
-abbrev pub metric_lines : Metric → List Line
+abbrev pub metric_lines : Metric → List LevelLine
 metric_lines m =
     (0, keyword (codes "metric") ∷ NameWord m.name ∷ SignWord OpenBrace ∷ [])
     ∷ (1, keyword (codes "units") ∷ QuotedWord m.units ∷ SignWord Semicolon ∷ [])
     ∷ (map reference_line m.constraints
     ++ ((1, base_words m) ∷ (flat_map (block_lines 2) m.blocks ++ (close_line 1 ∷ close_line 0 ∷ []))))
 
-abbrev pub constraint_lines : Constraint → List Line
+abbrev pub constraint_lines : Constraint → List LevelLine
 constraint_lines c = (0, constraint_head c ++ (SignWord OpenBrace ∷ [])) ∷ (flat_map (block_lines 1) c.blocks ++ (close_line 0 ∷ []))
 
 -- a line, unless it has no words
-abbrev pub some_line : ℕ → List Word → List Line
+abbrev pub some_line : ℕ → List Word → List LevelLine
 some_line level [] = []
 some_line level (word ∷ words) = (level, word ∷ words) ∷ []
 
-abbrev pub hypothesis_lines : Hypothesis → List Line
+abbrev pub hypothesis_lines : Hypothesis → List LevelLine
 hypothesis_lines h =
     (0, keyword (codes "hypothesis") ∷ NameWord h.name ∷ SignWord OpenBrace ∷ [])
     ∷ (some_line 1 (parent_words h.parent)
@@ -120,7 +120,7 @@ hypothesis_lines h =
     ∷ (1, keyword (codes "threshold") ∷ NumberWord h.threshold ∷ SignWord Semicolon ∷ [])
     ∷ (some_line 1 (axes_words h.axes) ++ (close_line 0 ∷ []))))
 
-abbrev pub search_lines : SearchDecl → List Line
+abbrev pub search_lines : SearchDecl → List LevelLine
 search_lines s =
     (0, keyword (codes "search") ∷ SignWord OpenBrace ∷ [])
     ∷ (1, keyword (codes "window") ∷ NumberWord s.window ∷ SignWord Semicolon ∷ [])
@@ -128,7 +128,7 @@ search_lines s =
     ∷ (1, keyword (codes "observed") ∷ NumberWord s.observed ∷ SignWord Semicolon ∷ [])
     ∷ close_line 0 ∷ []
 
-abbrev pub item_lines : Item → List Line
+abbrev pub item_lines : Item → List LevelLine
 item_lines (item.Include i) = (0, include_words i) ∷ []
 item_lines (item.Sync s) = (0, sync_words s) ∷ []
 item_lines (item.Metric m) = metric_lines m

@@ -8,7 +8,7 @@ use Rattle.mdl_ast.specs.declared.block.EventKind.{EventKind}
 use Rattle.mdl_ast.specs.declared.block.Set.{Set}
 use Rattle.mdl_parse.specs.declared.change.Change.{Change}
 use Rattle.mdl_parse.specs.WordsInText.{PlacedWord}
-use Rattle.mdl_parse.specs.Picks.{is_sign, is_arg, when, name_of, number_of, quoted_of, path_of, choice_of, step_of, event_of, var_of, right_of, cmp_of, whole_of}
+use Rattle.mdl_parse.specs.Picks.{is_sign, is_arg, when, name_of, word_number, quoted_of, path_of, choice_of, step_of, event_of, var_of, right_of, cmp_of, whole_of}
 use Rattle.mdl_parse.specs.Shapes.{is_keyword}
 use Rattle.mdl_parse.specs.Steps.{Read, ◌>>=◌, line_at, leaf_at}
 
@@ -31,7 +31,7 @@ abbrev pub name_at : List PlacedWord → Read (List ℕ)
 name_at = leaf_at name_of
 
 abbrev pub number_at : List PlacedWord → Read ℕ
-number_at = leaf_at number_of
+number_at = leaf_at word_number
 
 abbrev pub quoted_at : List PlacedWord → Read (List ℕ)
 quoted_at = leaf_at quoted_of

@@ -30,22 +30,22 @@ line_at (placed ∷ words_ahead) = placed.line
 -- ---- one word
 
 -- what stands after the first word
-abbrev pub behind : List PlacedWord → List PlacedWord
-behind [] = []
-behind (placed ∷ words_ahead) = words_ahead
+abbrev pub words_after : List PlacedWord → List PlacedWord
+words_after [] = []
+words_after (placed ∷ words_ahead) = words_ahead
 
 -- the first word, if there is one
 abbrev pub first_word : List PlacedWord → Option Word
 first_word [] = None
 first_word (placed ∷ words_ahead) = Some placed.word
 
-abbrev pub taken : {A : Type 0} → Option A → List PlacedWord → Read A
-taken None words_ahead = Err (stop Unexpected words_ahead)
-taken (Some a) words_ahead = Ok (a, behind words_ahead)
+abbrev pub some_read : {A : Type 0} → Option A → List PlacedWord → Read A
+some_read None words_ahead = Err (stop Unexpected words_ahead)
+some_read (Some a) words_ahead = Ok (a, words_after words_ahead)
 
 -- the first word, which has to mean something
 unfoldable pub leaf_at : {A : Type 0} → (Word → Option A) → List PlacedWord → Read A
-leaf_at pick words_ahead = taken (option_and_then pick (first_word words_ahead)) words_ahead
+leaf_at pick words_ahead = some_read (option_and_then pick (first_word words_ahead)) words_ahead
 
 -- ---- parts that may be there
 

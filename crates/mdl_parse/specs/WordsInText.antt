@@ -37,13 +37,13 @@ plain_word (Starts line word) = word
 plain_word (Goes word) = word
 
 -- words of which the tree holds no line
-abbrev pub goes : List Word → List TreeWord
-goes words = map Goes words
+abbrev pub other_words : List Word → List TreeWord
+other_words words = map Goes words
 
 -- words of a part whose line the tree holds
 abbrev pub starts : ℕ → List Word → List TreeWord
 starts line [] = []
-starts line (word ∷ words) = Starts line word ∷ goes words
+starts line (word ∷ words) = Starts line word ∷ other_words words
 
 -- the word of a text is the one of the tree, on the line that the tree holds
 abbrev pub Fits : TreeWord → PlacedWord → Type 0

@@ -1,7 +1,7 @@
 //! Blocks and their insertions.
 
 ghost use Rattle.std.specs.Prelude.{◌≡◌, codes};
-ghost use Rattle.mdl_parse.specs.Gives.{Gives};
+ghost use Rattle.mdl_parse.specs.Gives.{IsReadResult};
 ghost use Rattle.mdl_parse.specs.Picks.{is_sign, is_var, is_insertion};
 ghost use Rattle.mdl_parse.specs.Shapes.{is_keyword};
 ghost use Rattle.mdl_parse.specs.Steps.{many_at};
@@ -18,7 +18,7 @@ impl<'a> Words<'a> {
     /// Passes the keyword if it is in view, and says whether it was.
     #[tactic(auto, unfolding(crate::specs::Parts::flag_at))]
     fn flag(&mut self, text: &[u8]) -> Result<bool, Stop>
-        ensures { Gives result self.new (flag_at text.now self.old) }
+        ensures { IsReadResult result self.new (flag_at text.now self.old) }
     {
         if self.is_keyword(text) {
             self.keyword(text)?;
@@ -30,7 +30,7 @@ impl<'a> Words<'a> {
     /// Passes all statements that stand here.
     #[tactic(auto, using(crate::proofs::Loops::loop_shorter, crate::proofs::Loops::loop_more, crate::proofs::Loops::loop_all, crate::proofs::Loops::loop_stops, crate::proofs::BlockRules::statements_loop))]
     fn statements(&mut self, alloc: Global, most: usize) -> Result<Seq<Statement>, Stop>
-        ensures { Gives result self.new (many_at is_var (statement_at most) self.old) }
+        ensures { IsReadResult result self.new (many_at is_var (statement_at most) self.old) }
     {
         let mut statements = Vec::new(alloc);
         'statements: while self.is_var() {
@@ -43,7 +43,7 @@ impl<'a> Words<'a> {
     /// Passes an insertion.
     #[tactic(auto, unfolding(crate::specs::Parts::insertion_at))]
     fn insertion(&mut self, alloc: Global, most: usize) -> Result<Insertion, Stop>
-        ensures { Gives result self.new (insertion_at most self.old) }
+        ensures { IsReadResult result self.new (insertion_at most self.old) }
     {
         let line = self.line();
         let prepend = self.choice(b"prepend", b"append")?;
@@ -64,7 +64,7 @@ impl<'a> Words<'a> {
     /// Passes all insertions that stand here.
     #[tactic(auto, using(crate::proofs::Loops::loop_shorter, crate::proofs::Loops::loop_more, crate::proofs::Loops::loop_all, crate::proofs::Loops::loop_stops, crate::proofs::BlockRules::insertions_loop))]
     fn insertions(&mut self, alloc: Global, most: usize) -> Result<Seq<Insertion>, Stop>
-        ensures { Gives result self.new (many_at is_insertion (insertion_at most) self.old) }
+        ensures { IsReadResult result self.new (many_at is_insertion (insertion_at most) self.old) }
     {
         let mut insertions = Vec::new(alloc);
         'insertions: while self.is_insertion() {
@@ -77,7 +77,7 @@ impl<'a> Words<'a> {
     /// Passes a comma and a name.
     #[tactic(auto, unfolding(crate::specs::Parts::another_at))]
     fn another(&mut self, alloc: Global) -> Result<Text, Stop>
-        ensures { Gives result self.new (another_at self.old) }
+        ensures { IsReadResult result self.new (another_at self.old) }
     {
         self.sign(Sign::Comma)?;
         Ok(self.name(alloc)?)
@@ -86,7 +86,7 @@ impl<'a> Words<'a> {
     /// Passes names between commas, at least one.
     #[tactic(auto, using(crate::proofs::Loops::loop_shorter, crate::proofs::Loops::loop_more, crate::proofs::Loops::loop_all, crate::proofs::Loops::loop_stops, crate::proofs::BlockRules::names_loop, crate::proofs::NameLoop::names_begin, crate::proofs::NameLoop::names_stop))]
     pub(crate) fn names(&mut self, alloc: Global) -> Result<Seq<Text>, Stop>
-        ensures { Gives result self.new (names_at self.old) }
+        ensures { IsReadResult result self.new (names_at self.old) }
     {
         let mut names = Vec::new(alloc);
         let name = self.name(alloc)?;
@@ -101,7 +101,7 @@ impl<'a> Words<'a> {
     /// Passes names in brackets.
     #[tactic(auto, unfolding(crate::specs::Parts::named_at))]
     fn named(&mut self, alloc: Global) -> Result<Set, Stop>
-        ensures { Gives result self.new (named_at self.old) }
+        ensures { IsReadResult result self.new (named_at self.old) }
     {
         self.sign(Sign::OpenBracket)?;
         let names = self.names(alloc)?;
@@ -112,7 +112,7 @@ impl<'a> Words<'a> {
     /// Passes a set of procedures.
     #[tactic(auto, unfolding(crate::specs::Parts::set_at))]
     fn set(&mut self, alloc: Global) -> Result<Set, Stop>
-        ensures { Gives result self.new (set_at self.old) }
+        ensures { IsReadResult result self.new (set_at self.old) }
     {
         if self.is_sign(Sign::OpenBracket) {
             Ok(self.named(alloc)?)
@@ -124,7 +124,7 @@ impl<'a> Words<'a> {
     /// Passes a block.
     #[tactic(auto, unfolding(crate::specs::Parts::block_at))]
     fn block(&mut self, alloc: Global, most: usize) -> Result<Block, Stop>
-        ensures { Gives result self.new (block_at most self.old) }
+        ensures { IsReadResult result self.new (block_at most self.old) }
     {
         let line = self.start(b"foreach")?;
         self.keyword(b"func")?;
@@ -143,7 +143,7 @@ impl<'a> Words<'a> {
     /// Passes all blocks that stand here.
     #[tactic(auto, using(crate::proofs::Loops::loop_shorter, crate::proofs::Loops::loop_more, crate::proofs::Loops::loop_all, crate::proofs::Loops::loop_stops, crate::proofs::BlockRules::blocks_loop))]
     fn all_blocks(&mut self, alloc: Global, most: usize) -> Result<Seq<Block>, Stop>
-        ensures { Gives result self.new (many_at (is_keyword (codes "foreach")) (block_at most) self.old) }
+        ensures { IsReadResult result self.new (many_at (is_keyword (codes "foreach")) (block_at most) self.old) }
     {
         let mut blocks = Vec::new(alloc);
         'each: while self.is_keyword(b"foreach") {
@@ -156,7 +156,7 @@ impl<'a> Words<'a> {
     /// Passes the blocks of a metric or a constraint, in braces.
     #[tactic(auto, unfolding(crate::specs::Parts::blocks_at))]
     pub(crate) fn blocks(&mut self, alloc: Global, most: usize) -> Result<Seq<Block>, Stop>
-        ensures { Gives result self.new (blocks_at most self.old) }
+        ensures { IsReadResult result self.new (blocks_at most self.old) }
     {
         self.sign(Sign::OpenBrace)?;
         let blocks = self.all_blocks(alloc, most)?;

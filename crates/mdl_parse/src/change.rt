@@ -1,7 +1,7 @@
 //! What a statement does.
 
 ghost use Rattle.std.specs.Prelude.{◌≡◌};
-ghost use Rattle.mdl_parse.specs.Actions.{changed, timed};
+ghost use Rattle.mdl_parse.specs.Actions.{action_of_change, timed};
 
 use mdl_ast::{Action, VarName};
 
@@ -18,7 +18,7 @@ pub(crate) enum Change {
 
 /// The action that does this with a variable.
 pub(crate) fn changed(var: VarName, change: Change) -> Action
-    ensures { result ≡ changed var change }
+    ensures { result ≡ action_of_change var change }
 {
     match change {
         Change::Up => Action::Up(var),

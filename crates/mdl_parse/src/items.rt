@@ -1,7 +1,7 @@
 //! The items of a configuration.
 
 ghost use Rattle.std.specs.Prelude.{◌≡◌};
-ghost use Rattle.mdl_parse.specs.Gives.{Gives};
+ghost use Rattle.mdl_parse.specs.Gives.{IsReadResult};
 ghost use Rattle.mdl_parse.specs.Items.{include_at, sync_at, search_at, phase_at, wish_at, item_at, items_at};
 
 use crate::refusal::Stop;
@@ -15,7 +15,7 @@ impl<'a> Words<'a> {
     /// Passes an include.
     #[tactic(auto, unfolding(crate::specs::Items::include_at))]
     fn include(&mut self) -> Result<Include, Stop>
-        ensures { Gives result self.new (include_at self.old) }
+        ensures { IsReadResult result self.new (include_at self.old) }
     {
         let line = self.start(b"include")?;
         let metrics = self.choice(b"metrics", b"hypotheses")?;
@@ -26,7 +26,7 @@ impl<'a> Words<'a> {
     /// Passes a beginning of object names.
     #[tactic(auto, unfolding(crate::specs::Items::sync_at))]
     fn sync(&mut self, alloc: Global) -> Result<SyncDecl, Stop>
-        ensures { Gives result self.new (sync_at self.old) }
+        ensures { IsReadResult result self.new (sync_at self.old) }
     {
         let line = self.start(b"sync")?;
         let name = self.name(alloc)?;
@@ -37,7 +37,7 @@ impl<'a> Words<'a> {
     /// Passes how the search goes.
     #[tactic(auto, unfolding(crate::specs::Items::search_at))]
     fn search(&mut self) -> Result<SearchDecl, Stop>
-        ensures { Gives result self.new (search_at self.old) }
+        ensures { IsReadResult result self.new (search_at self.old) }
     {
         let line = self.start(b"search")?;
         self.sign(Sign::OpenBrace)?;
@@ -56,7 +56,7 @@ impl<'a> Words<'a> {
     /// Passes a phase.
     #[tactic(auto, unfolding(crate::specs::Items::phase_at))]
     fn phase(&mut self, alloc: Global) -> Result<PhaseDecl, Stop>
-        ensures { Gives result self.new (phase_at self.old) }
+        ensures { IsReadResult result self.new (phase_at self.old) }
     {
         let line = self.start(b"phase")?;
         let name = self.name(alloc)?;
@@ -67,7 +67,7 @@ impl<'a> Words<'a> {
     /// Passes a wish.
     #[tactic(auto, unfolding(crate::specs::Items::wish_at))]
     fn wish(&mut self, alloc: Global) -> Result<Wish, Stop>
-        ensures { Gives result self.new (wish_at self.old) }
+        ensures { IsReadResult result self.new (wish_at self.old) }
     {
         let line = self.start(b"at")?;
         let at = self.number()?;
@@ -87,7 +87,7 @@ impl<'a> Words<'a> {
     /// Passes an item.
     #[tactic(auto, unfolding(crate::specs::Items::item_at))]
     fn item(&mut self, alloc: Global, most: usize) -> Result<Item, Stop>
-        ensures { Gives result self.new (item_at most self.old) }
+        ensures { IsReadResult result self.new (item_at most self.old) }
     {
         if self.is_keyword(b"include") {
             return Ok(Item::Include(self.include()?));
@@ -116,7 +116,7 @@ impl<'a> Words<'a> {
     /// Passes all items, up to the end.
     #[tactic(auto, using(crate::proofs::Loops::loop_shorter, crate::proofs::Loops::loop_more, crate::proofs::Loops::loop_all, crate::proofs::Loops::loop_stops, crate::proofs::AllItems::items_loop))]
     pub(crate) fn items(&mut self, alloc: Global, most: usize) -> Result<Seq<Item>, Stop>
-        ensures { Gives result self.new (items_at most self.old) }
+        ensures { IsReadResult result self.new (items_at most self.old) }
     {
         let mut items = Vec::new(alloc);
         'items: while self.has_more() {

@@ -4,7 +4,7 @@
 
 ghost use Rattle.std.specs.Prelude.{◌≡◌, codes, IfOk, IfErr};
 ghost use Rattle.mdl_parse.specs.declared.refusal.Stop.TheVariants.{NoMemory};
-ghost use Rattle.mdl_parse.specs.Gives.{Gives, var_seen};
+ghost use Rattle.mdl_parse.specs.Gives.{IsReadResult, var_seen};
 ghost use Rattle.mdl_parse.specs.Readers.{start_at, keyword_at, sign_at, arg_at, name_at, number_at, quoted_at, path_at, choice_at, step_at, event_at, var_at, cmp_at, right_at, whole_at};
 
 use crate::change::Change;
@@ -41,7 +41,7 @@ impl<'a> Words<'a> {
     /// Passes the keyword.
     #[tactic(auto, unfolding(crate::specs::Steps::leaf_at))]
     pub(crate) fn keyword(&mut self, text: &[u8]) -> Result<(), Stop>
-        ensures { Gives result self.new (keyword_at text.now self.old) }
+        ensures { IsReadResult result self.new (keyword_at text.now self.old) }
     {
         if let Some(word) = self.word()
             && word.is_keyword(text)
@@ -55,7 +55,7 @@ impl<'a> Words<'a> {
     /// Passes the keyword with which a part begins, and gives its line.
     #[tactic(auto, unfolding(crate::specs::Readers::start_at))]
     pub(crate) fn start(&mut self, text: &[u8]) -> Result<u32, Stop>
-        ensures { Gives result self.new (start_at text.now self.old) }
+        ensures { IsReadResult result self.new (start_at text.now self.old) }
     {
         let line = self.line();
         self.keyword(text)?;
@@ -65,7 +65,7 @@ impl<'a> Words<'a> {
     /// Passes the sign.
     #[tactic(auto, unfolding(crate::specs::Steps::leaf_at))]
     pub(crate) fn sign(&mut self, sign: Sign) -> Result<(), Stop>
-        ensures { Gives result self.new (sign_at sign self.old) }
+        ensures { IsReadResult result self.new (sign_at sign self.old) }
     {
         if let Some(word) = self.word()
             && word.is_sign(sign)
@@ -79,7 +79,7 @@ impl<'a> Words<'a> {
     /// Passes `$arg`.
     #[tactic(auto, unfolding(crate::specs::Steps::leaf_at))]
     pub(crate) fn arg(&mut self) -> Result<(), Stop>
-        ensures { Gives result self.new (arg_at self.old) }
+        ensures { IsReadResult result self.new (arg_at self.old) }
     {
         if let Some(word) = self.word()
             && word.is_arg()
@@ -93,7 +93,7 @@ impl<'a> Words<'a> {
     /// Passes a name.
     #[tactic(auto, unfolding(crate::specs::Steps::leaf_at))]
     pub(crate) fn name(&mut self, alloc: Global) -> Result<Text, Stop>
-        ensures { Gives result self.new (name_at self.old) }
+        ensures { IsReadResult result self.new (name_at self.old) }
     {
         let Some(name) = self.word().and_then(Seen::name) else {
             return Err(UNEXPECTED);
@@ -106,7 +106,7 @@ impl<'a> Words<'a> {
     /// Passes a string, and gives the text between its quotes.
     #[tactic(auto, unfolding(crate::specs::Steps::leaf_at))]
     pub(crate) fn quoted(&mut self, alloc: Global) -> Result<Text, Stop>
-        ensures { Gives result self.new (quoted_at self.old) }
+        ensures { IsReadResult result self.new (quoted_at self.old) }
     {
         let Some(quoted) = self.word().and_then(Seen::quoted) else {
             return Err(UNEXPECTED);
@@ -119,7 +119,7 @@ impl<'a> Words<'a> {
     /// Passes a focus.
     #[tactic(auto, unfolding(crate::specs::Steps::leaf_at))]
     pub(crate) fn path(&mut self, alloc: Global) -> Result<Text, Stop>
-        ensures { Gives result self.new (path_at self.old) }
+        ensures { IsReadResult result self.new (path_at self.old) }
     {
         let Some(path) = self.word().and_then(Seen::path) else {
             return Err(UNEXPECTED);
@@ -132,7 +132,7 @@ impl<'a> Words<'a> {
     /// Passes a number.
     #[tactic(auto, unfolding(crate::specs::Steps::leaf_at))]
     pub(crate) fn number(&mut self) -> Result<u32, Stop>
-        ensures { Gives result self.new (number_at self.old) }
+        ensures { IsReadResult result self.new (number_at self.old) }
     {
         let Some(number) = self.word().and_then(Seen::number) else {
             return Err(UNEXPECTED);
@@ -144,7 +144,7 @@ impl<'a> Words<'a> {
     /// Passes the name of a kind of points.
     #[tactic(auto, unfolding(crate::specs::Steps::leaf_at))]
     pub(crate) fn event(&mut self) -> Result<EventKind, Stop>
-        ensures { Gives result self.new (event_at self.old) }
+        ensures { IsReadResult result self.new (event_at self.old) }
     {
         let Some(event) = self.word().and_then(Seen::event) else {
             return Err(UNEXPECTED);
@@ -156,7 +156,7 @@ impl<'a> Words<'a> {
     /// Passes a comparison.
     #[tactic(auto, unfolding(crate::specs::Steps::leaf_at))]
     pub(crate) fn cmp(&mut self) -> Result<Cmp, Stop>
-        ensures { Gives result self.new (cmp_at self.old) }
+        ensures { IsReadResult result self.new (cmp_at self.old) }
     {
         let Some(cmp) = self.word().and_then(Seen::cmp) else {
             return Err(UNEXPECTED);
@@ -168,7 +168,7 @@ impl<'a> Words<'a> {
     /// Passes the right side of a condition.
     #[tactic(auto, unfolding(crate::specs::Steps::leaf_at))]
     pub(crate) fn right(&mut self) -> Result<RightSide, Stop>
-        ensures { Gives result self.new (right_at self.old) }
+        ensures { IsReadResult result self.new (right_at self.old) }
     {
         let Some(right) = self.word().and_then(Seen::right) else {
             return Err(UNEXPECTED);
@@ -180,7 +180,7 @@ impl<'a> Words<'a> {
     /// Passes `++` or `--`.
     #[tactic(auto, unfolding(crate::specs::Steps::leaf_at))]
     pub(crate) fn step(&mut self) -> Result<Change, Stop>
-        ensures { Gives result self.new (step_at self.old) }
+        ensures { IsReadResult result self.new (step_at self.old) }
     {
         let Some(step) = self.word().and_then(Seen::step) else {
             return Err(UNEXPECTED);
@@ -192,7 +192,7 @@ impl<'a> Words<'a> {
     /// Passes `$focus` or `$all`.
     #[tactic(auto, unfolding(crate::specs::Steps::leaf_at))]
     pub(crate) fn whole(&mut self) -> Result<Set, Stop>
-        ensures { Gives result self.new (whole_at self.old) }
+        ensures { IsReadResult result self.new (whole_at self.old) }
     {
         let Some(whole) = self.word().and_then(Seen::whole) else {
             return Err(UNEXPECTED);
@@ -204,7 +204,7 @@ impl<'a> Words<'a> {
     /// Passes one of two keywords, and says whether it was the first.
     #[tactic(auto, unfolding(crate::specs::Steps::leaf_at))]
     pub(crate) fn choice(&mut self, one: &[u8], other: &[u8]) -> Result<bool, Stop>
-        ensures { Gives result self.new (choice_at one.now other.now self.old) }
+        ensures { IsReadResult result self.new (choice_at one.now other.now self.old) }
     {
         let Some(word) = self.word() else {
             return Err(UNEXPECTED);
@@ -219,7 +219,7 @@ impl<'a> Words<'a> {
     /// Passes a variable.
     #[tactic(auto, unfolding(crate::specs::Steps::leaf_at))]
     pub(crate) fn var(&mut self, alloc: Global) -> Result<VarName, Stop>
-        ensures { Gives result self.new (var_at self.old) }
+        ensures { IsReadResult result self.new (var_at self.old) }
     {
         let Some(seen) = self.word().and_then(Seen::var) else {
             return Err(UNEXPECTED);

@@ -4,7 +4,7 @@ ghost use Rattle.std.specs.Prelude.{◌≡◌, ◌++◌, [], map, OnOk, if◌the
 ghost use Rattle.pn_text.specs.Signs.{sign_text};
 ghost use Rattle.pn_text.specs.Writing.{word_text};
 ghost use Rattle.mdl_parse.specs.Gives.{word_seen};
-ghost use Rattle.mdl_parse.specs.Printing.{gap, behind_word, words_text, indent, line_text, close_line};
+ghost use Rattle.mdl_parse.specs.Printing.{gap, text_after, words_text, indent, line_text, close_line};
 
 use crate::gaps::stand_close;
 use crate::seen::Seen;
@@ -110,7 +110,7 @@ fn add_next(alloc: Global, out: &mut Vec<u8>, left: Seen, word: Seen) -> Result<
 
 /// Adds the words that stand after a word.
 fn add_behind(alloc: Global, out: &mut Vec<u8>, first: Seen, words: &[Seen]) -> Result<(), NoMemory>
-    ensures { OnOk result (out.new.items ≡ out.old.items ++ behind_word (word_seen first.entry) (map word_seen words.now)) }
+    ensures { OnOk result (out.new.items ≡ out.old.items ++ text_after (word_seen first.entry) (map word_seen words.now)) }
 {
     let mut left = first;
     for word in words {

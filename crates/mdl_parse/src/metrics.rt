@@ -1,7 +1,7 @@
 //! Metrics, constraints and hypotheses.
 
 ghost use Rattle.std.specs.Prelude.{◌≡◌};
-ghost use Rattle.mdl_parse.specs.Gives.{Gives};
+ghost use Rattle.mdl_parse.specs.Gives.{IsReadResult};
 ghost use Rattle.mdl_parse.specs.Items.{opened_at, initial_at, initially_at, reference_at, references_at, units_at, base_at, body_at, metric_at, constraint_at, named_field_at, number_field_at, parent_at, axis_names_at, axes_at, hypothesis_at};
 
 use crate::refusal::Stop;
@@ -15,7 +15,7 @@ impl<'a> Words<'a> {
     /// Passes the keyword, a name and `{`, and gives the line of the keyword and the name.
     #[tactic(auto, unfolding(crate::specs::Items::opened_at))]
     fn opened(&mut self, alloc: Global, text: &[u8]) -> Result<(u32, Text), Stop>
-        ensures { Gives result self.new (opened_at text.now self.old) }
+        ensures { IsReadResult result self.new (opened_at text.now self.old) }
     {
         let line = self.start(text)?;
         let name = self.name(alloc)?;
@@ -26,7 +26,7 @@ impl<'a> Words<'a> {
     /// Passes the value at first, where it is written.
     #[tactic(auto, unfolding(crate::specs::Items::initial_at, crate::specs::Steps::option_at))]
     fn initially(&mut self) -> Result<Option<u32>, Stop>
-        ensures { Gives result self.new (initially_at self.old) }
+        ensures { IsReadResult result self.new (initially_at self.old) }
     {
         if self.is_keyword(b"initially") {
             self.keyword(b"initially")?;
@@ -39,7 +39,7 @@ impl<'a> Words<'a> {
     /// Passes the name of a constraint that a metric takes.
     #[tactic(auto, unfolding(crate::specs::Items::reference_at))]
     fn reference(&mut self, alloc: Global) -> Result<Text, Stop>
-        ensures { Gives result self.new (reference_at self.old) }
+        ensures { IsReadResult result self.new (reference_at self.old) }
     {
         self.keyword(b"constraint")?;
         let name = self.name(alloc)?;
@@ -50,7 +50,7 @@ impl<'a> Words<'a> {
     /// Passes all names of constraints that stand here.
     #[tactic(auto, using(crate::proofs::Loops::loop_shorter, crate::proofs::Loops::loop_more, crate::proofs::Loops::loop_all, crate::proofs::Loops::loop_stops, crate::proofs::ItemRules::references_loop))]
     fn references(&mut self, alloc: Global) -> Result<Seq<Text>, Stop>
-        ensures { Gives result self.new (references_at self.old) }
+        ensures { IsReadResult result self.new (references_at self.old) }
     {
         let mut names = Vec::new(alloc);
         'names: while self.is_keyword(b"constraint") {
@@ -63,7 +63,7 @@ impl<'a> Words<'a> {
     /// Passes the unit of a metric.
     #[tactic(auto, unfolding(crate::specs::Items::units_at))]
     fn units(&mut self, alloc: Global) -> Result<Text, Stop>
-        ensures { Gives result self.new (units_at self.old) }
+        ensures { IsReadResult result self.new (units_at self.old) }
     {
         self.keyword(b"units")?;
         let units = self.quoted(alloc)?;
@@ -74,7 +74,7 @@ impl<'a> Words<'a> {
     /// Passes what a metric is, and says whether it is a timer.
     #[tactic(auto, unfolding(crate::specs::Items::base_at))]
     fn base(&mut self) -> Result<bool, Stop>
-        ensures { Gives result self.new (base_at self.old) }
+        ensures { IsReadResult result self.new (base_at self.old) }
     {
         self.keyword(b"base")?;
         self.keyword(b"is")?;
@@ -84,7 +84,7 @@ impl<'a> Words<'a> {
     /// Passes the value at first and the blocks.
     #[tactic(auto, unfolding(crate::specs::Items::body_at))]
     fn body(&mut self, alloc: Global, most: usize) -> Result<(Option<u32>, Seq<Block>), Stop>
-        ensures { Gives result self.new (body_at most self.old) }
+        ensures { IsReadResult result self.new (body_at most self.old) }
     {
         let initially = self.initially()?;
         let blocks = self.blocks(alloc, most)?;
@@ -94,7 +94,7 @@ impl<'a> Words<'a> {
     /// Passes a metric.
     #[tactic(auto, unfolding(crate::specs::Items::metric_at))]
     pub(crate) fn metric(&mut self, alloc: Global, most: usize) -> Result<Metric, Stop>
-        ensures { Gives result self.new (metric_at most self.old) }
+        ensures { IsReadResult result self.new (metric_at most self.old) }
     {
         let (line, name) = self.opened(alloc, b"metric")?;
         let units = self.units(alloc)?;
@@ -116,7 +116,7 @@ impl<'a> Words<'a> {
     /// Passes a constraint.
     #[tactic(auto, unfolding(crate::specs::Items::constraint_at))]
     pub(crate) fn constraint(&mut self, alloc: Global, most: usize) -> Result<Constraint, Stop>
-        ensures { Gives result self.new (constraint_at most self.old) }
+        ensures { IsReadResult result self.new (constraint_at most self.old) }
     {
         let line = self.start(b"constraint")?;
         let name = self.name(alloc)?;
@@ -137,7 +137,7 @@ impl<'a> Words<'a> {
     /// Passes the keyword, a name and `;`.
     #[tactic(auto, unfolding(crate::specs::Items::named_field_at))]
     fn named_field(&mut self, alloc: Global, text: &[u8]) -> Result<Text, Stop>
-        ensures { Gives result self.new (named_field_at text.now self.old) }
+        ensures { IsReadResult result self.new (named_field_at text.now self.old) }
     {
         self.keyword(text)?;
         let name = self.name(alloc)?;
@@ -148,7 +148,7 @@ impl<'a> Words<'a> {
     /// Passes the keyword, a number and `;`.
     #[tactic(auto, unfolding(crate::specs::Items::number_field_at))]
     pub(crate) fn number_field(&mut self, text: &[u8]) -> Result<u32, Stop>
-        ensures { Gives result self.new (number_field_at text.now self.old) }
+        ensures { IsReadResult result self.new (number_field_at text.now self.old) }
     {
         self.keyword(text)?;
         let number = self.number()?;
@@ -159,7 +159,7 @@ impl<'a> Words<'a> {
     /// Passes the parent of a hypothesis, where it is written.
     #[tactic(auto, unfolding(crate::specs::Steps::option_at))]
     fn parent(&mut self, alloc: Global) -> Result<Option<Text>, Stop>
-        ensures { Gives result self.new (parent_at self.old) }
+        ensures { IsReadResult result self.new (parent_at self.old) }
     {
         if self.is_keyword(b"parent") {
             let name = self.named_field(alloc, b"parent")?;
@@ -171,7 +171,7 @@ impl<'a> Words<'a> {
     /// Passes the axes of a hypothesis; none where they aren't written.
     #[tactic(auto, unfolding(crate::specs::Items::axes_at, crate::specs::Items::axis_names_at))]
     fn axes(&mut self, alloc: Global) -> Result<Seq<Text>, Stop>
-        ensures { Gives result self.new (axes_at self.old) }
+        ensures { IsReadResult result self.new (axes_at self.old) }
     {
         if self.is_keyword(b"axes") {
             self.keyword(b"axes")?;
@@ -185,7 +185,7 @@ impl<'a> Words<'a> {
     /// Passes a hypothesis.
     #[tactic(auto, unfolding(crate::specs::Items::hypothesis_at))]
     pub(crate) fn hypothesis(&mut self, alloc: Global) -> Result<Hypothesis, Stop>
-        ensures { Gives result self.new (hypothesis_at self.old) }
+        ensures { IsReadResult result self.new (hypothesis_at self.old) }
     {
         let (line, name) = self.opened(alloc, b"hypothesis")?;
         let parent = self.parent(alloc)?;

@@ -4,7 +4,7 @@ ghost use Rattle.std.specs.Prelude.{◌+◌, ◌<◌, ◌^◌, length, IfOk, IfE
 ghost use Rattle.std.specs.List.{AllByRecursion};
 ghost use Rattle.mdl_ast.specs.Small.{HasSmall};
 ghost use Rattle.mdl_parse.specs.Lexing.{AreTokens};
-ghost use Rattle.mdl_parse.specs.Meaning.{IsConf, Faults, Refuses, OneConf, OneFault, ConfOrFault};
+ghost use Rattle.mdl_parse.specs.Meaning.{IsConf, Faults, ParseRefuses, OneConf, OneFault, ConfOrFault};
 
 use crate::fault::ParseError;
 use crate::lexing::tokenize;
@@ -26,7 +26,7 @@ fn parsed(
 ) -> Result<Conf, ParseError>
     requires { AreTokens text.now tokens.now ending }
     ensures conf { IfOk result (λ conf. IsConf text.now conf) }
-    ensures fault { IfErr result (λ e. Refuses e (Faults text.now)) }
+    ensures fault { IfErr result (λ e. ParseRefuses e (Faults text.now)) }
     ensures small { IfOk result (λ conf. AllByRecursion HasSmall conf.items) }
 {
     let mut words = Words::new(text, tokens);
@@ -48,7 +48,7 @@ fn parsed(
 pub fn parse(alloc: Global, text: &[u8]) -> Result<Conf, ParseError>
     requires { length text.now + 1 < 2 ^ 32 }
     ensures conf { IfOk result (λ conf. IsConf text.now conf) }
-    ensures fault { IfErr result (λ e. Refuses e (Faults text.now)) }
+    ensures fault { IfErr result (λ e. ParseRefuses e (Faults text.now)) }
     ensures small { IfOk result (λ conf. AllByRecursion HasSmall conf.items) }
 {
     let tokens = tokenize(alloc, text)?;

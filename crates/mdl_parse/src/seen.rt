@@ -3,7 +3,7 @@
 ghost use Rattle.std.specs.Prelude.{◌≡◌};
 ghost use Rattle.std.specs.Option.{option_map};
 ghost use Rattle.mdl_parse.specs.Gives.{word_seen, var_seen};
-ghost use Rattle.mdl_parse.specs.Picks.{is_sign, is_arg, is_var, name_of, number_of, quoted_of, path_of, choice_of, step_of, sign_step, whole_of, event_named, event_of, var_of, right_of, sign_cmp, cmp_of};
+ghost use Rattle.mdl_parse.specs.Picks.{is_sign, is_arg, is_var, name_of, word_number, quoted_of, path_of, choice_of, step_of, sign_step, whole_of, event_named, event_of, var_of, right_of, sign_cmp, cmp_of};
 ghost use Rattle.mdl_parse.specs.Shapes.{is_keyword};
 
 use crate::change::Change;
@@ -121,7 +121,7 @@ impl<'a> Seen<'a> {
 
     /// The number.
     pub(crate) fn number(self) -> Option<u32>
-        ensures { result ≡ number_of (word_seen self.entry) }
+        ensures { result ≡ word_number (word_seen self.entry) }
     {
         match self {
             Seen::Number(number) => Some(number),

@@ -5,7 +5,7 @@ ghost use Rattle.std.specs.Option.{option_map};
 ghost use Rattle.pn_text.specs.Scans.{AreSpans};
 ghost use Rattle.pn_text.specs.Words.{without_quotes};
 ghost use Rattle.mdl_parse.specs.WordsInText.{placed_word};
-ghost use Rattle.mdl_parse.specs.Steps.{first_word, behind, line_at};
+ghost use Rattle.mdl_parse.specs.Steps.{first_word, words_after, line_at};
 ghost use Rattle.mdl_parse.specs.Ends.{unread_in, fault_in};
 ghost use Rattle.mdl_parse.specs.Lexing.{ending_of};
 ghost use Rattle.mdl_parse.specs.Gives.{word_seen};
@@ -88,7 +88,7 @@ impl<'a> Words<'a> {
 
     /// Passes the word in view.
     pub(crate) fn advance(&mut self)
-        ensures { self.new ≡ behind self.old }
+        ensures { self.new ≡ words_after self.old }
     {
         if let [_, behind @ ..] = self.tokens {
             self.tokens = behind;

@@ -34,7 +34,7 @@ use Rattle.mdl_plan.specs.Active.{Active}
 use Rattle.mdl_plan.specs.Choosing.{is_chosen, kinds_of}
 use Rattle.mdl_plan.specs.Fitting.{HasLowObjects}
 use Rattle.mdl_plan.specs.Pieces.{Piece, piece, pieces_of, replacement, counting, counters, base_blocks, counter_pieces, is_before, is_behind, in_order}
-use Rattle.mdl_plan.specs.Plans.{Scene, base_var, counter_var, vars_of, stmts_for, site_at, has_stmts, sites_of, open_if, open_at, opens_of, terms_of, scene_of}
+use Rattle.mdl_plan.specs.Plans.{PlanScope, base_var, counter_var, vars_of, stmts_for, site_at, has_stmts, sites_of, open_if, open_at, opens_of, terms_of, scene_of}
 use Rattle.mdl_plan.specs.Statements.{Terms, guards, left_of, right_of, cond_of, act_of, stmt_of, stmts_of}
 use Rattle.mdl_plan.proofs.Costs.{short_stmt}
 use Rattle.mdl_plan.proofs.Limits.{few_counting}
@@ -189,7 +189,7 @@ module _ (vars : List Var) (t : Terms) (P : Stmt → Type 0) (one : (timer : Boo
 
 -- ---- sites and what is open
 
-module _ (P : Stmt → Type 0) (s : Scene) (h : AllByRecursion (λ p. AllByRecursion P (stmts_of s.terms p)) s.pieces) where
+module _ (P : Stmt → Type 0) (s : PlanScope) (h : AllByRecursion (λ p. AllByRecursion P (stmts_of s.terms p)) s.pieces) where
   abbrev SiteFits : Site → Type 0
   SiteFits site = AllByRecursion P site.stmts
 
@@ -244,7 +244,7 @@ abbrev AllStmts : (Stmt → Type 0) → List Site → Type 0
 AllStmts P sites = AllByRecursion (λ site. AllByRecursion P site.stmts) sites
 
 module _ (t : Resources) (f : Focus) (procs : List Proc) (points : List Point) (m : Metric) (a : Active) (suits : ActiveSuits m a) (own : IsSoundMetric m) where
-  abbrev scene : Scene
+  abbrev scene : PlanScope
   scene = scene_of (part t f) procs m a
 
   abbrev HoldsOfEach : (Stmt → Type 0) → Type 0

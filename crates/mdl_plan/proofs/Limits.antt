@@ -19,7 +19,7 @@ use Rattle.resource_tree.specs.Resources.{Resources}
 use Rattle.resource_tree.specs.Foci.{part}
 use Rattle.mdl_plan.specs.Active.{Active}
 use Rattle.mdl_plan.specs.Pieces.{counters, counting}
-use Rattle.mdl_plan.specs.Plans.{Answers, IsLimited, IsPlanOver, IsSiteOf, Scene, has_stmts, is_crowded, opens_of, or_crowded, plan_with, plan_at, site_at, sites_of, scene_of, stmts_at, counter_var, vars_of}
+use Rattle.mdl_plan.specs.Plans.{IsPlanOr, IsLimited, IsPlanOver, IsSiteOf, PlanScope, has_stmts, is_crowded, opens_of, or_crowded, plan_with, plan_at, site_at, sites_of, scene_of, stmts_at, counter_var, vars_of}
 use Rattle.mdl_plan.specs.declared.fault.PlanFault.{PlanFault}
 use Rattle.mdl_plan.specs.declared.fault.PlanError.{PlanError}
 use Rattle.mdl_plan.specs.declared.fault.PlanFault.TheVariants.{TooManySites}
@@ -70,7 +70,7 @@ more_points p points [] h = tt
 more_points p points (site ∷ sites) h =
     (record { at = or_true (p.at == site.at) (list_any (λ q. q.at == site.at) points) h.0.at; some = h.0.some }, more_points p points sites h.1)
 
-sites_of_points : (s : Scene) (points : List Point) → AllByRecursion (IsSiteOf points) (sites_of s points)
+sites_of_points : (s : PlanScope) (points : List Point) → AllByRecursion (IsSiteOf points) (sites_of s points)
 sites_of_points s [] = tt
 sites_of_points s (p ∷ points) = go (has_stmts (site_at s p)) refl (more_points p points (sites_of s points) (sites_of_points s points))
   where
@@ -97,7 +97,7 @@ to_increasing (n ∷ ns) h zero l = All-from_recursion (λ m. n < m) ns h.0 zero
 to_increasing (n ∷ ns) h (suc k) l =
     let e : suc (k + 1) ≡ suc k + 1 = omega arith in subst (λ (j : ℕ). get_or (n ∷ ns) (suc k) 0 < get_or (n ∷ ns) j 0) e (to_increasing ns h.1 k (omega arith))
 
-above_sites : (s : Scene) (n : ℕ) (points : List Point) → AllByRecursion (λ m. n < m) (map (λ p. p.at) points) → AllByRecursion (λ m. n < m) (map (λ x. x.at) (sites_of s points))
+above_sites : (s : PlanScope) (n : ℕ) (points : List Point) → AllByRecursion (λ m. n < m) (map (λ p. p.at) points) → AllByRecursion (λ m. n < m) (map (λ x. x.at) (sites_of s points))
 above_sites s n [] h = tt
 above_sites s n (p ∷ points) h = go (has_stmts (site_at s p)) (above_sites s n points h.1)
   where
@@ -105,7 +105,7 @@ above_sites s n (p ∷ points) h = go (has_stmts (site_at s p)) (above_sites s n
     go true rest = (h.0, rest)
     go false rest = rest
 
-ascending_sites : (s : Scene) (points : List Point) → Ascend (map (λ p. p.at) points) → Ascend (map (λ x. x.at) (sites_of s points))
+ascending_sites : (s : PlanScope) (points : List Point) → Ascend (map (λ p. p.at) points) → Ascend (map (λ x. x.at) (sites_of s points))
 ascending_sites s [] h = tt
 ascending_sites s (p ∷ points) h = go (has_stmts (site_at s p)) (ascending_sites s points h.1)
   where
@@ -127,7 +127,7 @@ few_vars m a =
     let mapped = length-map (counters a) counter_var in
     omega (arith, few_counting a.code, few_counting a.object, both, mapped)
 
-over : (points : List Point) (s : Scene) (m : Metric) (a : Active) (plan : Plan) → plan_with (vars_of m a) (sites_of s points) (opens_of s points) ≡ Ok plan → IsPlanOver points plan
+over : (points : List Point) (s : PlanScope) (m : Metric) (a : Active) (plan : Plan) → plan_with (vars_of m a) (sites_of s points) (opens_of s points) ≡ Ok plan → IsPlanOver points plan
 over points s m a plan e =
     let is = plan_is (vars_of m a) (sites_of s points) (opens_of s points) plan e in
     let limited = plan_limits (vars_of m a) (sites_of s points) (opens_of s points) plan (few_opens s points) e in
@@ -139,6 +139,6 @@ over points s m a plan e =
     })
 
 -- a result that is a plan is within its limits
-pub answer_over : (t : Resources) (f : Focus) (procs : List Proc) (points : List Point) (m : Metric) (a : Active) (r : Result Plan PlanError) → Answers r (plan_at t f procs points m (Ok a)) → IfOk r (IsPlanOver points)
+pub answer_over : (t : Resources) (f : Focus) (procs : List Proc) (points : List Point) (m : Metric) (a : Active) (r : Result Plan PlanError) → IsPlanOr r (plan_at t f procs points m (Ok a)) → IfOk r (IsPlanOver points)
 answer_over t f procs points m a (Ok plan) e = over points (scene_of (part t f) procs m a) m a plan e
 answer_over t f procs points m a (Err fault) e = tt

@@ -18,7 +18,7 @@ use Rattle.resource_tree.specs.Foci.{part}
 use Rattle.resource_tree.specs.Resources.{Resources}
 use Rattle.mdl_plan.specs.Active.{Active, active_of}
 use Rattle.mdl_plan.specs.Fitting.{HasFewConds, HasLowObjects, most_words}
-use Rattle.mdl_plan.specs.Plans.{Answers, IsPlanOver, Scene, vars_of, opens_of, sites_of, scene_of, plan_at}
+use Rattle.mdl_plan.specs.Plans.{IsPlanOr, IsPlanOver, PlanScope, vars_of, opens_of, sites_of, scene_of, plan_at}
 use Rattle.mdl_plan.specs.declared.fault.PlanError.{PlanError}
 use Rattle.mdl_plan.proofs.Costs.{of_plan}
 use Rattle.mdl_plan.proofs.FittingStmts.{scene_few, scene_opens, scene_stmts}
@@ -53,21 +53,21 @@ is_checked ms cs f i m a metrics constraints taken lt is active = record {
 }
 
 module _ (t : Resources) (f : Focus) (procs : List Proc) (points : List Point) (m : Metric) (a : Active) (c : IsChecked m a) where
-  abbrev scene : Scene
+  abbrev scene : PlanScope
   scene = scene_of (part t f) procs m a
 
-  abbrev is : (plan : Plan) → Answers (Ok plan) (plan_at t f procs points m (Ok a)) → record { vars = vars_of m a; sites = sites_of scene points; opens = opens_of scene points } ≡ plan
+  abbrev is : (plan : Plan) → IsPlanOr (Ok plan) (plan_at t f procs points m (Ok a)) → record { vars = vars_of m a; sites = sites_of scene points; opens = opens_of scene points } ≡ plan
   is plan e = plan_is (vars_of m a) (sites_of scene points) (opens_of scene points) plan e
 
-  pub answer_few : (r : Result Plan PlanError) → Answers r (plan_at t f procs points m (Ok a)) → IfOk r HasFewConds
+  pub answer_few : (r : Result Plan PlanError) → IsPlanOr r (plan_at t f procs points m (Ok a)) → IfOk r HasFewConds
   answer_few (Err fault) e = tt
   answer_few (Ok plan) e = subst HasFewConds (is plan e) (scene_few t f procs points m a c.suits c.own)
 
-  pub answer_cost : (r : Result Plan PlanError) → Answers r (plan_at t f procs points m (Ok a)) → IfOk r (IsPlanOver points) → IfOk r (λ plan. predicted plan ≤ most_words)
+  pub answer_cost : (r : Result Plan PlanError) → IsPlanOr r (plan_at t f procs points m (Ok a)) → IfOk r (IsPlanOver points) → IfOk r (λ plan. predicted plan ≤ most_words)
   answer_cost (Err fault) e over = tt
   answer_cost (Ok plan) e over = of_plan plan (answer_few (Ok plan) e) over.limited
 
-  pub answer_measurable : (r : Result Plan PlanError) → Answers r (plan_at t f procs points m (Ok a)) → IfOk r (IsPlanOver points) → HasLowObjects t → IsStrictlyIncreasing (map (λ p. p.at) points)
+  pub answer_measurable : (r : Result Plan PlanError) → IsPlanOr r (plan_at t f procs points m (Ok a)) → IfOk r (IsPlanOver points) → HasLowObjects t → IsStrictlyIncreasing (map (λ p. p.at) points)
       → IfOk r (λ plan. AllByRecursion (λ v. v.initially < 2 ^ 32) plan.vars) → IfOk r IsMeasurable
   answer_measurable (Err fault) e over low rise narrow = tt
   answer_measurable (Ok plan) e over low rise narrow = record {

@@ -12,9 +12,9 @@ use Rattle.pn_types.specs.declared.plan.Var.{Var}
 use Rattle.mdl_plan.specs.Busy.{busy}
 use Rattle.mdl_plan.specs.Scopes.{scope}
 use Rattle.mdl_plan.specs.Pieces.{Piece}
-use Rattle.mdl_plan.specs.Plans.{Answers, Scene, is_crowded, or_crowded, plan_with, opens_of, sites_of}
+use Rattle.mdl_plan.specs.Plans.{IsPlanOr, PlanScope, is_crowded, or_crowded, plan_with, opens_of, sites_of}
 use Rattle.mdl_plan.specs.Statements.{Terms}
-use Rattle.mdl_plan.specs.ChosenPieces.{AreChosen, Refuses, has_numbers, opens_with, site_with, sites_with}
+use Rattle.mdl_plan.specs.ChosenPieces.{AreChosen, PlanRefuses, has_numbers, opens_with, site_with, sites_with}
 use Rattle.mdl_plan.specs.declared.fault.PlanFault.{PlanFault}
 use Rattle.mdl_plan.specs.declared.fault.PlanFault.TheVariants.{NoConstraint, TooManySites, TooManyStmts}
 use Rattle.mdl_plan.specs.declared.fault.PlanError.{PlanError}
@@ -24,7 +24,7 @@ use Rattle.mdl_plan.proofs.OpenList.{opens_reached}
 use Rattle.mdl_plan.proofs.PointStmts.{opens_are, sites_are}
 
 -- the sites of a scene, where the points at which a piece is chosen are reached
-pub scene_sites : (s : Scene) (terms : Terms) (pieces : List Piece) (t : ChosenPieces) (reached points : List Point)
+pub scene_sites : (s : PlanScope) (terms : Terms) (pieces : List Piece) (t : ChosenPieces) (reached points : List Point)
     → filter (has_numbers t) reached ≡ filter (has_numbers t) points → pieces ≡ busy s.pieces → AreChosen (scope s.selected s.procs) pieces t → terms ≡ s.terms
     → sites_with terms pieces t reached ≡ sites_of s points
 scene_sites s terms pieces t reached points all e h f =
@@ -37,7 +37,7 @@ pub many_sites : (terms : Terms) (pieces : List Piece) (t : ChosenPieces) (point
 many_sites terms pieces t points = length-map (filter (has_numbers t) points) (site_with terms pieces t)
 
 -- what is open in a scene, where the same points are reached
-pub scene_opens : (s : Scene) (terms : Terms) (pieces : List Piece) (t : ChosenPieces) (reached points : List Point)
+pub scene_opens : (s : PlanScope) (terms : Terms) (pieces : List Piece) (t : ChosenPieces) (reached points : List Point)
     → filter (has_numbers t) reached ≡ filter (has_numbers t) points → pieces ≡ busy s.pieces → AreChosen (scope s.selected s.procs) pieces t → terms ≡ s.terms
     → opens_with terms pieces t s.procs reached ≡ opens_of s points
 scene_opens s terms pieces t reached points all e h f =
@@ -61,15 +61,15 @@ few_enough vars due opens few =
 
 -- the sites were refused
 pub refused : (vars : List Var) (sites due : List Site) (opens : List Open) (n : ℕ) (e : PlanError) (r : Result Plan PlanError) → r ≡ Err e
-    → sites ≡ due → length sites ≡ n → n ≤ 4096 → Refuses e sites → Answers r (plan_with vars due opens)
+    → sites ≡ due → length sites ≡ n → n ≤ 4096 → PlanRefuses e sites → IsPlanOr r (plan_with vars due opens)
 refused vars sites due opens n e r is same len few h =
-    subst (λ (x : Result Plan PlanError). Answers x (plan_with vars due opens)) (sym is) (by e (subst (Refuses e) same h))
+    subst (λ (x : Result Plan PlanError). IsPlanOr x (plan_with vars due opens)) (sym is) (by e (subst (PlanRefuses e) same h))
   where
     crowded : (at : ℕ) (o : Option Site) → option_map (λ s. s.at) o ≡ Some at → or_crowded vars due opens o ≡ Err (TooManyStmts at)
     crowded at None g = cc
     crowded at (Some s) g = let k : s.at ≡ at = cc in ap (λ (m : ℕ). let r : Result Plan PlanFault = Err (TooManyStmts m) in r) k
 
-    by : (e : PlanError) → Refuses e due → Answers (Err e) (plan_with vars due opens)
+    by : (e : PlanError) → PlanRefuses e due → IsPlanOr (Err e) (plan_with vars due opens)
     by error.NoMemory g = tt
     by (error.Fault (NoConstraint axis)) g = absurd g
     by (error.Fault (TooManySites m)) g = absurd g

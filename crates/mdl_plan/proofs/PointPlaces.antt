@@ -11,7 +11,7 @@ use Rattle.std.proofs.lemmas.List.Kept.{Contains-dedup_nat}
 use Rattle.std.proofs.lemmas.List.Sorted.{list_any-IsPermutation}
 use Rattle.std.proofs.lemmas.Option.{slice_get-get_or, slice_get_past, slice_get_within}
 use Rattle.pn_types.specs.declared.code.Point.{Point}
-use Rattle.mdl_plan.specs.Indexes.{AreByProcedure, gathered, placed}
+use Rattle.mdl_plan.specs.Indexes.{AreByProcedure, gathered, with_point_place}
 use Rattle.mdl_plan.proofs.Elements.{get_within, get_behind}
 
 -- what stands in a list stands in it once it is sorted and has each number once
@@ -36,7 +36,7 @@ has_still : (l : List ℕ) (n i : ℕ) → list_any (λ j. j == i) l ≡ true �
 has_still l n i there = list_any-append (λ j. j == i) l (n ∷ []) ∙ ap (λ (b : Bool). b || ((n == i) || false)) there
 
 -- one more point
-place_more : (points : List Point) (p : Point) (places : List (List ℕ)) → AreByProcedure points places → AreByProcedure (points ++ p ∷ []) (placed p.proc_no (length points) places)
+place_more : (points : List Point) (p : Point) (places : List (List ℕ)) → AreByProcedure points places → AreByProcedure (points ++ p ∷ []) (with_point_place p.proc_no (length points) places)
 place_more points p places h i r at lt = by (cases_lt i (length points)) (cases_eq r.proc_no p.proc_no)
   where
     n : ℕ
@@ -65,22 +65,22 @@ place_more points p places h i r at lt = by (cases_lt i (length points)) (cases_
         ap (list_any (λ j. j == i)) (here (ap (λ (x : Point). x.proc_no) (sym e))) ∙ has_last (get_or places p.proc_no []) n i last
 
 -- the next point
-pub next_place : (points : List Point) (i : ℕ) (d : Point) (places new : List (List ℕ)) → i < length points → new ≡ placed (get_or points i d).proc_no i places
+pub next_place : (points : List Point) (i : ℕ) (d : Point) (places new : List (List ℕ)) → i < length points → new ≡ with_point_place (get_or points i d).proc_no i places
     → AreByProcedure (take i points) places → AreByProcedure (take (i + 1) points) new
 next_place points i d places new lt made h =
     let p = get_or points i d in
     let len : length (take i points) ≡ i = length-take-le i points (omega arith) in
     subst (λ (ps : List Point). AreByProcedure ps new) (sym (take_more points i d lt))
-    (subst (AreByProcedure (take i points ++ p ∷ [])) (ap (λ (n : ℕ). placed p.proc_no n places) len ∙ sym made) (place_more (take i points) p places h))
+    (subst (AreByProcedure (take i points ++ p ∷ [])) (ap (λ (n : ℕ). with_point_place p.proc_no n places) len ∙ sym made) (place_more (take i points) p places h))
 
 -- ---- one more place
 
-pub placed_there : {V : Type 0} (items : V → List ℕ) (vs : List V) (q i : ℕ) (v w : V) → q < length vs → v ≡ get_or vs q v → items w ≡ items v ++ i ∷ [] → map items (set vs q w) ≡ placed q i (map items vs)
+pub placed_there : {V : Type 0} (items : V → List ℕ) (vs : List V) (q i : ℕ) (v w : V) → q < length vs → v ≡ get_or vs q v → items w ≡ items v ++ i ∷ [] → map items (set vs q w) ≡ with_point_place q i (map items vs)
 placed_there items vs q i v w lt is e =
     map-set items vs q w
     ∙ ap (set (map items vs) q) (e ∙ ap (λ (l : List ℕ). l ++ i ∷ []) (ap items is ∙ sym (get_or-map items vs q v [] lt)))
 
-pub placed_many : {V : Type 0} (items : V → List ℕ) (vs ws : List V) (q i : ℕ) → map items ws ≡ placed q i (map items vs) → length ws ≡ length vs
+pub placed_many : {V : Type 0} (items : V → List ℕ) (vs ws : List V) (q i : ℕ) → map items ws ≡ with_point_place q i (map items vs) → length ws ≡ length vs
 placed_many items vs ws q i e =
     sym (length-map ws items) ∙ ap length e ∙ length-set (map items vs) q (get_or (map items vs) q [] ++ i ∷ []) ∙ length-map vs items
 

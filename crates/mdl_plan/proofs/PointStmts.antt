@@ -12,7 +12,7 @@ use Rattle.mdl_ast.specs.declared.block.EventKind.TheVariants.{Entry, After, Ret
 use Rattle.mdl_plan.specs.Busy.{busy}
 use Rattle.mdl_plan.specs.Choosing.{is_chosen, kind_if}
 use Rattle.mdl_plan.specs.Numbers.{AreNumbers, stmts_of_number}
-use Rattle.mdl_plan.specs.Plans.{Scene, has_stmts, open_at, open_if, opens_of, site_at, sites_of, stmts_at, stmts_for}
+use Rattle.mdl_plan.specs.Plans.{PlanScope, has_stmts, open_at, open_if, opens_of, site_at, sites_of, stmts_at, stmts_for}
 use Rattle.mdl_plan.specs.Scopes.{scope}
 use Rattle.mdl_plan.specs.ChosenPieces.{AreChosen, has_numbers, is_some_number, numbers_at, numbers_if, open_with, opens_with, site_with, sites_with}
 use Rattle.mdl_plan.specs.declared.chosen_pieces.ChosenPieces.{ChosenPieces}
@@ -20,10 +20,10 @@ use Rattle.mdl_plan.proofs.Numbered.{numbered, idle, some_both, counted}
 use Rattle.mdl_plan.proofs.OpenList.{no_stmts}
 
 -- the statements of a piece by its number, and those for a kind of points
-abbrev by_number : Scene → ℕ → List Stmt
+abbrev by_number : PlanScope → ℕ → List Stmt
 by_number s = stmts_of_number s.terms (busy s.pieces)
 
-abbrev by_kind : Scene → ℕ → EventKind → List Stmt
+abbrev by_kind : PlanScope → ℕ → EventKind → List Stmt
 by_kind s q = stmts_for s q (slice_get s.procs q)
 
 abbrev is_some_stmt : List Stmt → Bool
@@ -36,7 +36,7 @@ past [] q h = omega arith
 past (x ∷ procs) zero h = cc
 past (x ∷ procs) (suc q) h = omega (arith, past procs q h)
 
-module _ (s : Scene) (kind : EventKind) (lists : List (List ℕ)) (q : ℕ) (h : AreNumbers s.procs (is_chosen s.selected kind) (busy s.pieces) lists) where
+module _ (s : PlanScope) (kind : EventKind) (lists : List (List ℕ)) (q : ℕ) (h : AreNumbers s.procs (is_chosen s.selected kind) (busy s.pieces) lists) where
   of_kind : (o : Option Proc) → slice_get s.procs q ≡ o → flat_map (by_number s) (get_or lists q []) ≡ stmts_for s q o kind
   of_kind None e = ap (flat_map (by_number s)) (get_or_past lists q [] (omega (arith, h.len, past s.procs q e)))
   of_kind (Some p) e =
@@ -82,7 +82,7 @@ either {b = b} {c = c} {d = d} {w = w} {x = x} {y = y} p q r s =
     ∙ ap (λ (k : Bool). w || (x || (k || d))) r
     ∙ ap (λ (k : Bool). w || (x || (y || k))) s
 
-module _ (s : Scene) (t : ChosenPieces) (h : AreChosen (scope s.selected s.procs) (busy s.pieces) t) (p : Point) where
+module _ (s : PlanScope) (t : ChosenPieces) (h : AreChosen (scope s.selected s.procs) (busy s.pieces) t) (p : Point) where
   -- the statements of all kinds of the point
   four_kinds : stmts_at s p ≡ flat_map (by_kind s p.proc_no) (kind_if p.entry Entry)
       ++ (flat_map (by_kind s p.proc_no) (kind_if p.after After) ++ (flat_map (by_kind s p.proc_no) (kind_if p.ret Return) ++ flat_map (by_kind s p.proc_no) (kind_if p.call Call)))
@@ -131,13 +131,13 @@ selected {X = X} {Y = Y} f k test has same each (x ∷ xs) =
     by false true e h = cc
 
 -- the sites of chosen pieces are those of the plan
-pub sites_are : (s : Scene) (t : ChosenPieces) → AreChosen (scope s.selected s.procs) (busy s.pieces) t → (points : List Point)
+pub sites_are : (s : PlanScope) (t : ChosenPieces) → AreChosen (scope s.selected s.procs) (busy s.pieces) t → (points : List Point)
     → sites_with s.terms (busy s.pieces) t points ≡ sites_of s points
 sites_are s t h points = selected (site_at s) (site_with s.terms (busy s.pieces) t) has_stmts (has_numbers t) (same_test s t h) (same_site s t h) points
 
 -- ---- what is open
 
-module _ (s : Scene) (t : ChosenPieces) (h : AreChosen (scope s.selected s.procs) (busy s.pieces) t) where
+module _ (s : PlanScope) (t : ChosenPieces) (h : AreChosen (scope s.selected s.procs) (busy s.pieces) t) where
   same_open : (p : Point) → open_with s.terms (busy s.pieces) t s.procs p ≡ open_at s p
   same_open p = by p.entry
     where

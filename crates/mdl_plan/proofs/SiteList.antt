@@ -10,7 +10,7 @@ use Rattle.pn_types.specs.declared.plan.Site.{Site}
 use Rattle.mdl_plan.specs.Pieces.{Piece}
 use Rattle.mdl_plan.specs.Plans.{is_crowded}
 use Rattle.mdl_plan.specs.Statements.{Terms}
-use Rattle.mdl_plan.specs.ChosenPieces.{Refuses, has_numbers, site_with, sites_with}
+use Rattle.mdl_plan.specs.ChosenPieces.{PlanRefuses, has_numbers, site_with, sites_with}
 use Rattle.mdl_plan.specs.declared.fault.PlanFault.TheVariants.{NoConstraint, TooManySites, TooManyStmts}
 use Rattle.mdl_plan.specs.declared.fault.PlanError.{PlanError}
 use Rattle.mdl_plan.specs.declared.fault.PlanError.TheVariants as error
@@ -43,7 +43,7 @@ pub few_both : (a b : List Site) → find is_crowded a ≡ None → find is_crow
 few_both a b h k = find-append is_crowded a b ∙ ap (λ (o : Option Site). option_or o (find is_crowded b)) h ∙ k
 
 -- what refuses some sites refuses them where others stand around them, if none before them has too many
-pub refuses_all : (e : PlanError) (a b c : List Site) → find is_crowded a ≡ None → Refuses e b → Refuses e (a ++ (b ++ c))
+pub refuses_all : (e : PlanError) (a b c : List Site) → find is_crowded a ≡ None → PlanRefuses e b → PlanRefuses e (a ++ (b ++ c))
 refuses_all error.NoMemory a b c h k = tt
 refuses_all (error.Fault (NoConstraint axis)) a b c h k = k
 refuses_all (error.Fault (TooManySites n)) a b c h k = k

@@ -12,5 +12,5 @@ abbrev pub busy : List Piece → List Piece
 busy ps = filter has_some ps
 
 -- a piece that has statements and goes there: before what is there, or after it
-abbrev pub goes : Bool → Piece → Bool
-goes prepend p = (if prepend then is_before p else is_behind p) && has_some p
+abbrev pub is_put_there : Bool → Piece → Bool
+is_put_there prepend p = (if prepend then is_before p else is_behind p) && has_some p

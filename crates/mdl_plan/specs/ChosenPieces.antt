@@ -80,11 +80,11 @@ abbrev pub opens_with : Terms → List Piece → ChosenPieces → List Proc → 
 opens_with terms pieces t procs points = flat_map (open_with terms pieces t procs) points
 
 -- why these sites are none of a plan, unless memory runs out
-abbrev pub Refuses : PlanError → List Site → Type 0
-Refuses error.NoMemory sites = Unit {0}
-Refuses (error.Fault (NoConstraint axis)) sites = ⊥
-Refuses (error.Fault (TooManySites n)) sites = ⊥
-Refuses (error.Fault (TooManyStmts at)) sites = option_map (λ site. site.at) (find is_crowded sites) ≡ Some at
+abbrev pub PlanRefuses : PlanError → List Site → Type 0
+PlanRefuses error.NoMemory sites = Unit {0}
+PlanRefuses (error.Fault (NoConstraint axis)) sites = ⊥
+PlanRefuses (error.Fault (TooManySites n)) sites = ⊥
+PlanRefuses (error.Fault (TooManyStmts at)) sites = option_map (λ site. site.at) (find is_crowded sites) ≡ Some at
 
 -- what a planner adds for piece number i, its sites, and what is open
 abbrev pub stmts_in : Planner → ℕ → List Stmt

@@ -20,8 +20,8 @@ pub record IsIndexOf (procs : List Proc) (points : List Point) (own_names by_pro
   pub places : AreByProcedure points by_proc
 
 -- one more place, that of a point of procedure number q
-abbrev pub placed : ℕ → ℕ → List (List ℕ) → List (List ℕ)
-placed q i places = set places q (slice_index_or places q [] ++ i ∷ [])
+abbrev pub with_point_place : ℕ → ℕ → List (List ℕ) → List (List ℕ)
+with_point_place q i places = set places q (slice_index_or places q [] ++ i ∷ [])
 
 -- the points at these places, where there are such
 abbrev pub gathered : List Point → List ℕ → List Point

@@ -49,29 +49,29 @@ vars_of m a = base_var m a ∷ map counter_var (counters a)
 -- ---- sites
 
 -- what is planned: the procedures that the focus selects, the insertions, and what their statements have in common
-pub record Scene : Type 0 where
+pub record PlanScope : Type 0 where
   pub selected : List ℕ
   pub procs : List Proc
   pub pieces : List Piece
   pub terms : Terms
 
 -- the statements for the points of a kind of procedure number q
-abbrev pub stmts_for : Scene → ℕ → Option Proc → EventKind → List Stmt
+abbrev pub stmts_for : PlanScope → ℕ → Option Proc → EventKind → List Stmt
 stmts_for s q None kind = []
 stmts_for s q (Some p) kind = flat_map (stmts_of s.terms) (filter (is_chosen s.selected kind q p) s.pieces)
 
 -- the statements at a point, kind by kind
-abbrev pub stmts_at : Scene → Point → List Stmt
+abbrev pub stmts_at : PlanScope → Point → List Stmt
 stmts_at s p = flat_map (stmts_for s p.proc_no (slice_get s.procs p.proc_no)) (kinds_of p)
 
-abbrev pub site_at : Scene → Point → Site
+abbrev pub site_at : PlanScope → Point → Site
 site_at s p = record { at = p.at; stmts = stmts_at s p }
 
 abbrev pub has_stmts : Site → Bool
 has_stmts site = nat_lt 0 (length site.stmts)
 
 -- the points at which at least one statement stands
-abbrev pub sites_of : Scene → List Point → List Site
+abbrev pub sites_of : PlanScope → List Point → List Site
 sites_of s points = filter has_stmts (map (site_at s) points)
 
 -- ---- what is open
@@ -82,11 +82,11 @@ open_if stmts None = []
 open_if stmts (Some p) = if nat_lt 0 (length stmts) then record { start = p.start; len = p.len; stmts = stmts } ∷ [] else []
 
 -- the procedure of a point that is its entry
-abbrev pub open_at : Scene → Point → List Open
+abbrev pub open_at : PlanScope → Point → List Open
 open_at s p = if p.entry then open_if (stmts_for s p.proc_no (slice_get s.procs p.proc_no) Entry) (slice_get s.procs p.proc_no) else []
 
 -- the procedures at whose entries at least one entry statement stands
-abbrev pub opens_of : Scene → List Point → List Open
+abbrev pub opens_of : PlanScope → List Point → List Open
 opens_of s points = flat_map (open_at s) points
 
 -- ---- the plan
@@ -114,7 +114,7 @@ plan_with vars sites opens =
 abbrev pub terms_of : Selection → Active → Terms
 terms_of s a = record { guards = guards 1 (counters a); value = unwrap_or s.object 0 % 2 ^ 32 }
 
-abbrev pub scene_of : Selection → List Proc → Metric → Active → Scene
+abbrev pub scene_of : Selection → List Proc → Metric → Active → PlanScope
 scene_of s procs m a = record { selected = s.procs; procs = procs; pieces = pieces m a; terms = terms_of s a }
 
 abbrev pub plan_at : Resources → Focus → List Proc → List Point → Metric → Result Active PlanFault → Result Plan PlanFault
@@ -127,10 +127,10 @@ abbrev pub plan_of : List Constraint → Metric → Focus → Resources → List
 plan_of cs m f t procs points = plan_at t f procs points m (active_of cs m f)
 
 -- the result is what is due, unless memory runs out
-abbrev pub Answers : Result Plan PlanError → Result Plan PlanFault → Type 0
-Answers (Ok plan) due = due ≡ Ok plan
-Answers (Err (error.Fault fault)) due = due ≡ Err fault
-Answers (Err error.NoMemory) due = Unit {0}
+abbrev pub IsPlanOr : Result Plan PlanError → Result Plan PlanFault → Type 0
+IsPlanOr (Ok plan) due = due ≡ Ok plan
+IsPlanOr (Err (error.Fault fault)) due = due ≡ Err fault
+IsPlanOr (Err error.NoMemory) due = Unit {0}
 
 -- limits on how many sites a plan has, and how many statements each site and the entry of each procedure
 pub record IsLimited (plan : Plan) : Type 0 where

@@ -5,11 +5,11 @@ use Rattle.pn_types.specs.declared.settings.Start.{Start}
 use Rattle.pn_types.specs.declared.settings.Start.TheVariants.{Cold, Warm}
 
 -- cold it knows of no open procedure
-abbrev pub started : Start → Plan → Plan
-started Cold plan = record plan { opens = [] }
-started Warm plan = plan
+abbrev pub started_plan : Start → Plan → Plan
+started_plan Cold plan = record plan { opens = [] }
+started_plan Warm plan = plan
 
 -- a plan, if there is one
 abbrev pub started_if : {E : Type 0} → Start → Result Plan E → Result Plan E
-started_if start (Ok plan) = Ok (started start plan)
+started_if start (Ok plan) = Ok (started_plan start plan)
 started_if start (Err fault) = Err fault

@@ -2,7 +2,7 @@
 
 ghost use Rattle.std.specs.Prelude.{◌≡◌, ◌<◌, ◌^◌, [], IfOk, OnOk, length, map, flat_map, slice_index_or};
 ghost use Rattle.first_places.specs.Groups.{places_of};
-ghost use Rattle.mdl_plan.specs.Indexes.{gathered, placed, AreByProcedure};
+ghost use Rattle.mdl_plan.specs.Indexes.{gathered, with_point_place, AreByProcedure};
 ghost use Rattle.mdl_plan.specs.Numbers.{AreEmpty};
 ghost use Rattle.mdl_plan.specs.Scopes.{names_of};
 
@@ -83,7 +83,7 @@ fn empty_lists(alloc: Global, procs: usize) -> Result<Vec<Vec<u32>>, NoMemory>
 
 /// Puts the place of a point last among those of its procedure, if there is such a procedure.
 fn add_place(places: &mut Vec<Vec<u32>>, proc_no: u32, place: u32) -> Result<(), NoMemory>
-    ensures { OnOk result (map (λ l. l.items) places.new.items ≡ placed proc_no place (map (λ l. l.items) places.old.items)) }
+    ensures { OnOk result (map (λ l. l.items) places.new.items ≡ with_point_place proc_no place (map (λ l. l.items) places.old.items)) }
 {
     if let Some(list) = places.get_mut(proc_no as usize) {
         list.push(place)?;

@@ -3,7 +3,7 @@
 ghost use Rattle.std.specs.Prelude.{◌≡◌, ◌≤◌, ◌<◌, ◌+◌, ◌++◌, ◌∷◌, [], IfOk, OnOk, length, map, unwrap_or};
 ghost use Rattle.std.specs.List.{filter};
 ghost use Rattle.std.specs.Option.{option_map};
-ghost use Rattle.mdl_plan.specs.Busy.{busy, goes};
+ghost use Rattle.mdl_plan.specs.Busy.{busy, is_put_there};
 ghost use Rattle.mdl_plan.specs.Pieces.{base_blocks, base_initially, counter_pieces, piece, pieces_of};
 ghost use Rattle.mdl_plan.specs.Pieces as spec;
 
@@ -58,7 +58,7 @@ fn add_piece<'a>(
     prepend: bool,
     piece: Piece<'a>,
 ) -> Result<(), NoMemory>
-    ensures { OnOk result (pieces.new.items ≡ pieces.old.items ++ filter (goes prepend) (piece.entry ∷ [])) }
+    ensures { OnOk result (pieces.new.items ≡ pieces.old.items ++ filter (is_put_there prepend) (piece.entry ∷ [])) }
 {
     let insertion = piece.insertion();
     if insertion.prepend == prepend && !insertion.stmts.as_slice().is_empty() {
@@ -75,7 +75,7 @@ fn add_block<'a>(
     block: &'a Block,
 ) -> Result<(), NoMemory>
     ensures { OnOk result (pieces.new.items
-        ≡ pieces.old.items ++ filter (goes prepend) (map (piece variable block.now.set) block.now.insertions)) }
+        ≡ pieces.old.items ++ filter (is_put_there prepend) (map (piece variable block.now.set) block.now.insertions)) }
 {
     for insertion in block.insertions.as_slice() {
         let piece = Piece {
@@ -95,7 +95,7 @@ fn add_blocks<'a>(
     variable: u32,
     blocks: &'a [Block],
 ) -> Result<(), NoMemory>
-    ensures { OnOk result (pieces.new.items ≡ pieces.old.items ++ filter (goes prepend) (pieces_of variable blocks.now)) }
+    ensures { OnOk result (pieces.new.items ≡ pieces.old.items ++ filter (is_put_there prepend) (pieces_of variable blocks.now)) }
 {
     for block in blocks {
         add_block(pieces, prepend, variable, block)?;
@@ -111,7 +111,7 @@ fn add_counters<'a>(
 ) -> Result<(), NoMemory>
     requires { length counters.now ≤ 2 }
     ensures { OnOk result (pieces.new.items
-        ≡ pieces.old.items ++ filter (goes prepend) (counter_pieces 1 (map (λ c. c.now) counters.now))) }
+        ≡ pieces.old.items ++ filter (is_put_there prepend) (counter_pieces 1 (map (λ c. c.now) counters.now))) }
 {
     let mut variable = 1;
     for counter in counters {

@@ -7,7 +7,7 @@ ghost use Rattle.mdl_plan.specs.Busy.{busy};
 ghost use Rattle.mdl_plan.specs.Scopes.{scope};
 ghost use Rattle.mdl_plan.specs.Pieces as spec;
 ghost use Rattle.mdl_plan.specs.Plans.{is_crowded, open_if, terms_of};
-ghost use Rattle.mdl_plan.specs.ChosenPieces.{has_numbers, numbers_at, open_with, opens_in, sites_in, stmts_in, IsOver, AreChosen, Refuses};
+ghost use Rattle.mdl_plan.specs.ChosenPieces.{has_numbers, numbers_at, open_with, opens_in, sites_in, stmts_in, IsOver, AreChosen, PlanRefuses};
 
 use crate::active::Active;
 use crate::chosen_pieces::{ChosenPieces, numbers_if};
@@ -188,7 +188,7 @@ impl<'a> Planner<'a> {
     fn add_site(&self, alloc: Global, sites: &mut Vec<Site>, point: &Point) -> Result<(), PlanError>
         ensures added { OnOk result (sites.new.items ≡ sites.old.items ++ sites_in self.now (point.now ∷ [])) }
         ensures few { OnOk result (find is_crowded (sites_in self.now (point.now ∷ [])) ≡ None) }
-        ensures refused { IfErr result (λ e. Refuses e (sites_in self.now (point.now ∷ []))) }
+        ensures refused { IfErr result (λ e. PlanRefuses e (sites_in self.now (point.now ∷ []))) }
     {
         if !self.chosen.has_numbers(point) {
             return Ok(());
@@ -205,7 +205,7 @@ impl<'a> Planner<'a> {
     pub(crate) fn sites(&self, alloc: Global, points: &[&Point]) -> Result<Vec<Site>, PlanError>
         ensures all { IfOk result (λ sites. sites.items ≡ sites_in self.now (map (λ p. p.now) points.now)) }
         ensures few { OnOk result (find is_crowded (sites_in self.now (map (λ p. p.now) points.now)) ≡ None) }
-        ensures refused { IfErr result (λ e. Refuses e (sites_in self.now (map (λ p. p.now) points.now))) }
+        ensures refused { IfErr result (λ e. PlanRefuses e (sites_in self.now (map (λ p. p.now) points.now))) }
     {
         let mut sites = Vec::new(alloc);
         for point in points {

@@ -4,11 +4,11 @@ ghost use Rattle.std.specs.Prelude.{◌≡◌, ◌<◌, ◌≤◌, ◌^◌, leng
 ghost use Rattle.std.specs.List.{AllByRecursion};
 ghost use Rattle.std.specs.List.Sorted.{IsStrictlyIncreasing};
 ghost use Rattle.mdl_ast.specs.declared.metric.Metric.{Metric};
-ghost use Rattle.mdl_check.specs.Sound.{IsSound};
+ghost use Rattle.mdl_check.specs.Sound.{IsSoundCheck};
 ghost use Rattle.prim_code.specs.Counts.{predicted};
 ghost use Rattle.prim_code.specs.Fitting.{IsMeasurable};
 ghost use Rattle.mdl_plan.specs.Fitting.{most_words, HasFewConds, HasLowObjects};
-ghost use Rattle.mdl_plan.specs.Plans.{plan_at, plan_of, Answers, IsPlanOver};
+ghost use Rattle.mdl_plan.specs.Plans.{plan_at, plan_of, IsPlanOr, IsPlanOver};
 
 use crate::active::{Active, active_at};
 use crate::fault::{PlanError, PlanFault};
@@ -33,7 +33,7 @@ fn planned(
     tree: &Tree,
     index: &PlanIndex,
 ) -> Result<Plan, PlanError>
-    ensures answer { Answers result (plan_at tree.now focus.now index.now.procs index.now.points metric.now (Ok active.now)) }
+    ensures answer { IsPlanOr result (plan_at tree.now focus.now index.now.procs index.now.points metric.now (Ok active.now)) }
     ensures narrow { IfOk result (λ plan. AllByRecursion (λ v. v.initially < 2 ^ 32) plan.vars) }
 {
     let counters = active.counters(alloc)?;
@@ -95,13 +95,13 @@ pub fn plan(
 ) -> Result<Plan, PlanError>
     requires { metric < length checked.now.metrics }
     ensures answer { (m : Metric) → slice_get checked.now.metrics metric ≡ Some m →
-        Answers result (plan_of checked.now.constraints m focus.now tree.now index.now.procs index.now.points) }
+        IsPlanOr result (plan_of checked.now.constraints m focus.now tree.now index.now.procs index.now.points) }
     ensures within { IfOk result (IsPlanOver index.now.points) }
     // What is checked is sound where it was parsed or shipped.
-    ensures few_conds { IsSound checked.now → IfOk result HasFewConds }
-    ensures cost { IsSound checked.now → IfOk result (λ plan. predicted plan ≤ most_words) }
+    ensures few_conds { IsSoundCheck checked.now → IfOk result HasFewConds }
+    ensures cost { IsSoundCheck checked.now → IfOk result (λ plan. predicted plan ≤ most_words) }
     // The tree of an image's objects has low ones, and the points of an image ascend.
-    ensures measurable { IsSound checked.now → HasLowObjects tree.now
+    ensures measurable { IsSoundCheck checked.now → HasLowObjects tree.now
         → IsStrictlyIncreasing (map (λ p. p.at) index.now.points) → IfOk result IsMeasurable }
 {
     let metric = &checked.metrics.as_slice()[metric as usize];

@@ -6,7 +6,7 @@ ghost use Rattle.pn_types.specs.Images.{IsImage};
 ghost use Rattle.rv_word.specs.Plain.{can};
 ghost use Rattle.rv_mem.specs.Start.{program_of};
 ghost use Rattle.rv_exec.specs.Start.{start, harts_from};
-ghost use Rattle.plain_run.specs.Views.{harts_of};
+ghost use Rattle.plain_run.specs.Views.{plain_harts};
 ghost use Rattle.plain_run.specs.Machines.{turned};
 
 use crate::hart::HartState;
@@ -33,7 +33,7 @@ impl Model for PlainMachine {
     ghost use Rattle.rv_exec.specs.Shared.{prog_in};
     ghost use Rattle.plain_run.specs.Machines.{Machine};
     ghost use Rattle.plain_run.specs.Codes.{machine_code};
-    ghost use Rattle.plain_run.specs.Views.{harts_of};
+    ghost use Rattle.plain_run.specs.Views.{plain_harts};
 
     ghost Value = { Machine };
 
@@ -42,7 +42,7 @@ impl Model for PlainMachine {
     ghost view = { λ m. record {
       program = record { at = m.text_at; words = m.words.items };
       budget = m.budget;
-      state = record { harts = harts_of m.harts.items; prog = prog_in m.shared };
+      state = record { harts = plain_harts m.harts.items; prog = prog_in m.shared };
     } };
 
     ghost invariant = { λ m. (length m.shared.resv ≡ length m.harts.items) × (m.text_at + 4 * length m.words.items < 2 ^ 64) };
@@ -64,7 +64,7 @@ impl Drop for PlainMachine {
 /// The harts as they start.
 fn first_harts(alloc: Global, image: &Image, harts: u32) -> Result<Vec<HartState>, NoMemory>
     requires { harts ≤ MAX_HARTS }
-    ensures states { IfOk result (λ states. harts_of states.items ≡ harts_from harts 0 image.now harts) }
+    ensures states { IfOk result (λ states. plain_harts states.items ≡ harts_from harts 0 image.now harts) }
     ensures len { IfOk result (λ states. length states.items ≡ harts) }
 {
     let mut states = Vec::with_capacity(alloc, harts as usize)?;

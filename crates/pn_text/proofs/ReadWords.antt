@@ -5,12 +5,12 @@ use Rattle.std.specs.Option.{option_and_then}
 use Rattle.std.proofs.lemmas.Bool.{and_parts}
 use Rattle.std.proofs.lemmas.List.{length-take-le, length-drop, drop-drop, take-take}
 use Rattle.pn_text.specs.Numbers.{is_digit, decimal_from, at_most}
-use Rattle.pn_text.specs.Places.{first_place, behind_bytes}
+use Rattle.pn_text.specs.Places.{first_place, after_bytes}
 use Rattle.pn_text.specs.Bytes.{is_letter, begins_name, is_name_byte, is_string_byte, is_focus_byte, begins_with}
 use Rattle.pn_text.specs.Blanks.{blank_len}
 use Rattle.pn_text.specs.Signs.{signs, dollar_words, first_row}
 use Rattle.pn_text.specs.Tokens.{lexeme, small_number, number_at, string_at, focus_at, dollar_word_at, sign_at, other_at, or_fault, lexeme_at}
-use Rattle.pn_text.specs.Scans.{Rest, Scan, behind, behind_blanks, token_at, scan_on, scan_in, scan, tokens_of}
+use Rattle.pn_text.specs.Scans.{Rest, Scan, rest_after, after_blanks, token_at, scan_on, scan_in, scan, tokens_of}
 use Rattle.pn_text.specs.Words.{word_as, word_of, words_of, without_quotes, is_word}
 use Rattle.pn_text.specs.declared.place.Place.{Place}
 use Rattle.pn_text.specs.declared.token.TokenKind.{TokenKind}
@@ -159,13 +159,13 @@ lexeme_word place (byte ∷ bytes) found e =
 abbrev IsLeft : List ℕ → Rest → Type 0
 IsLeft source rest = drop rest.place.at source ≡ rest.bytes
 
-behind_left : (source : List ℕ) (n : ℕ) (rest : Rest) → n ≤ length rest.bytes → IsLeft source rest → IsLeft source (behind n rest)
+behind_left : (source : List ℕ) (n : ℕ) (rest : Rest) → n ≤ length rest.bytes → IsLeft source rest → IsLeft source (rest_after n rest)
 behind_left source n rest h e =
-    let at : (behind_bytes rest.place (take n rest.bytes)).at ≡ rest.place.at + n =
+    let at : (after_bytes rest.place (take n rest.bytes)).at ≡ rest.place.at + n =
     at-behind_bytes rest.place (take n rest.bytes) ∙ ap (λ k. rest.place.at + k) (length-take-le n rest.bytes h) in
     ap (λ k. drop k source) at ∙ (sym (drop-drop n rest.place.at source) ∙ ap (drop n) e)
 
-blanks_left : (source : List ℕ) (rest : Rest) → IsLeft source rest → IsLeft source (behind_blanks rest)
+blanks_left : (source : List ℕ) (rest : Rest) → IsLeft source rest → IsLeft source (after_blanks rest)
 blanks_left source rest e = behind_left source (blank_len false rest.bytes) rest (blank_len-le-length false rest.bytes) e
 
 abbrev AreWords : List ℕ → Scan → Type 0
@@ -178,7 +178,7 @@ words_on source more rest (Ok (Some found)) left e go =
     let stands = lexeme_stands rest.place rest.bytes found e in
     let len : rest.place.at + found.len - rest.place.at ≡ found.len = omega arith in
     let here : is_word (word_of source (token_at rest.place found)) ≡ true = rw (len, left) (lexeme_word rest.place rest.bytes found e) in
-    let next = blanks_left source (behind found.len rest) (behind_left source found.len rest stands.inside left) in
+    let next = blanks_left source (rest_after found.len rest) (behind_left source found.len rest stands.inside left) in
     rw (here, go (after rest found) next) refl
 
 words_up_to : (source : List ℕ) (n : ℕ) (rest : Rest) → IsLeft source rest → AreWords source (scan_in n rest)
@@ -194,4 +194,4 @@ pub words_of-are_words : (text : List ℕ) → list_all is_word (words_of text) 
 unfolding tokens_of
 words_of-are_words text =
     let start : Rest = record { place = first_place; bytes = text } in
-    words_left text (behind_blanks start) (blanks_left text start refl)
+    words_left text (after_blanks start) (blanks_left text start refl)

@@ -4,10 +4,10 @@ use Rattle.std.proofs.lemmas.List.{length-drop, length-take-le, drop-drop}
 use Rattle.std.specs.List.{prefix_len}
 use Rattle.pn_text.specs.Numbers.{is_digit}
 use Rattle.pn_text.specs.Bytes.{begins_name, is_name_byte}
-use Rattle.pn_text.specs.Places.{behind_bytes}
+use Rattle.pn_text.specs.Places.{after_bytes}
 use Rattle.pn_text.specs.Blanks.{blank_len}
 use Rattle.pn_text.specs.Tokens.{lexeme, number_at, string_at, other_at, or_fault, lexeme_at}
-use Rattle.pn_text.specs.Scans.{Rest, Scan, AtEnd, AtFault, behind, behind_blanks, token_at, onto, scan_on, scan_in, scan, place_of, fault_place}
+use Rattle.pn_text.specs.Scans.{Rest, Scan, AtEnd, AtFault, rest_after, after_blanks, token_at, onto, scan_on, scan_in, scan, place_of, fault_place}
 use Rattle.pn_text.specs.declared.place.Place.{Place}
 use Rattle.pn_text.specs.declared.token.LexFault.{LexFault}
 use Rattle.pn_text.specs.declared.token.LexFault.TheVariants.{BadByte, OpenString, BigNumber}
@@ -17,7 +17,7 @@ use Rattle.pn_text.proofs.LexemeLens.{chosen, Stands, lexeme_stands}
 
 -- what is left after a token and blanks
 abbrev pub after : Rest → Lexeme → Rest
-after rest found = behind_blanks (behind found.len rest)
+after rest found = after_blanks (rest_after found.len rest)
 
 -- it is shorter
 pub shorter : (rest : Rest) (found : Lexeme) → Stands found rest.bytes → length (after rest found).bytes < length rest.bytes
@@ -102,7 +102,7 @@ pub place_of-scan : (rest : Rest) → place_of (scan rest) ≡ rest.place
 place_of-scan rest = rw (scan_step rest) (scan_on_place rest (lexeme_at rest.place rest.bytes) refl)
 
 -- the place that was moved past a token and blanks is that of what is left after them
-pub moved : (text : List ℕ) (place middle last : Place) (len : ℕ) → len ≤ length (drop place.at text) → middle ≡ behind_bytes place (take len (drop place.at text)) → middle.at ≡ place.at + length (take len (drop place.at text)) → last ≡ (behind_blanks (record { place = middle; bytes = drop middle.at text })).place → drop last.at text ≡ (behind_blanks (record { place = middle; bytes = drop middle.at text })).bytes → record { place = last; bytes = drop last.at text } ≡ behind_blanks (behind len (record { place = place; bytes = drop place.at text }))
+pub moved : (text : List ℕ) (place middle last : Place) (len : ℕ) → len ≤ length (drop place.at text) → middle ≡ after_bytes place (take len (drop place.at text)) → middle.at ≡ place.at + length (take len (drop place.at text)) → last ≡ (after_blanks (record { place = middle; bytes = drop middle.at text })).place → drop last.at text ≡ (after_blanks (record { place = middle; bytes = drop middle.at text })).bytes → record { place = last; bytes = drop last.at text } ≡ after_blanks (rest_after len (record { place = place; bytes = drop place.at text }))
 moved text place middle last len within first at second bytes =
     let there : middle.at ≡ place.at + len = rw length-take-le at at in
     let here : drop middle.at text ≡ drop len (drop place.at text) = rw (there, drop-drop len place.at text) refl in

@@ -3,10 +3,10 @@ use Rattle.std.proofs.Common.{◌≡◌, ℕ, zero, suc, ◌+◌, ◌≤◌, ◌
 use Rattle.std.proofs.lemmas.List.{length-drop, length-take-le}
 use Rattle.std.proofs.lemmas.Bool.{cond_both}
 use Rattle.pn_text.specs.Bytes.{is_white_space, begins_with}
-use Rattle.pn_text.specs.Places.{first_place, behind_byte, behind_bytes}
+use Rattle.pn_text.specs.Places.{first_place, behind_byte, after_bytes}
 use Rattle.pn_text.specs.Blanks.{blank_len}
 use Rattle.pn_text.specs.Tokens.{lexeme_at}
-use Rattle.pn_text.specs.Scans.{Rest, Scan, behind, behind_blanks, scan_on, scan_in, scan, tokens_of, AreSpans}
+use Rattle.pn_text.specs.Scans.{Rest, Scan, rest_after, after_blanks, scan_on, scan_in, scan, tokens_of, AreSpans}
 use Rattle.pn_text.specs.declared.place.Place.{Place}
 use Rattle.pn_text.specs.declared.token.Token.{Token}
 use Rattle.pn_text.specs.declared.token.LexFault.{LexFault}
@@ -15,7 +15,7 @@ use Rattle.pn_text.proofs.LexemeLens.{Stands, lexeme_stands}
 use Rattle.pn_text.proofs.ScanSteps.{after}
 
 -- a place after bytes is that many further
-pub at-behind_bytes : (place : Place) (bytes : List ℕ) → (behind_bytes place bytes).at ≡ place.at + length bytes
+pub at-behind_bytes : (place : Place) (bytes : List ℕ) → (after_bytes place bytes).at ≡ place.at + length bytes
 at-behind_bytes place [] = omega arith
 at-behind_bytes place (byte ∷ bytes) = at-behind_bytes (behind_byte place byte) bytes ∙ omega arith
 
@@ -32,12 +32,12 @@ blank_len-le-length false (byte ∷ bytes) =
 abbrev AddsUp : Rest → ℕ → Type 0
 AddsUp rest len = rest.place.at + length rest.bytes ≡ len
 
-pub behind_adds : (n : ℕ) (rest : Rest) (len : ℕ) → n ≤ length rest.bytes → AddsUp rest len → AddsUp (behind n rest) len
+pub behind_adds : (n : ℕ) (rest : Rest) (len : ℕ) → n ≤ length rest.bytes → AddsUp rest len → AddsUp (rest_after n rest) len
 behind_adds n rest len h e =
-    let at : (behind_bytes rest.place (take n rest.bytes)).at ≡ rest.place.at + n = at-behind_bytes rest.place (take n rest.bytes) ∙ ap (λ k. rest.place.at + k) (length-take-le n rest.bytes h) in
+    let at : (after_bytes rest.place (take n rest.bytes)).at ≡ rest.place.at + n = at-behind_bytes rest.place (take n rest.bytes) ∙ ap (λ k. rest.place.at + k) (length-take-le n rest.bytes h) in
     omega (arith, at, length-drop n rest.bytes)
 
-pub behind_blanks_adds : (rest : Rest) (len : ℕ) → AddsUp rest len → AddsUp (behind_blanks rest) len
+pub behind_blanks_adds : (rest : Rest) (len : ℕ) → AddsUp rest len → AddsUp (after_blanks rest) len
 behind_blanks_adds rest len e = behind_adds (blank_len false rest.bytes) rest len (blank_len-le-length false rest.bytes) e
 
 -- spans from a place on are spans from one before it on
@@ -50,7 +50,7 @@ spans_on more rest (Err fault) len e stands go = omega arith
 spans_on more rest (Ok None) len e stands go = omega arith
 spans_on more rest (Ok (Some found)) len e stands go =
     let here = stands found refl in
-    let middle = behind found.len rest in
+    let middle = rest_after found.len rest in
     let at : middle.place.at ≡ rest.place.at + found.len = at-behind_bytes rest.place (take found.len rest.bytes) ∙ ap (λ k. rest.place.at + k) (length-take-le found.len rest.bytes here.inside) in
     let further : middle.place.at ≤ (after rest found).place.at = omega (arith, at-behind_bytes middle.place (take (blank_len false middle.bytes) middle.bytes)) in (
       omega arith,
@@ -74,8 +74,8 @@ pub spans-tokens_of : (text : List ℕ) → AreSpans 0 (tokens_of text).tokens (
 unfolding tokens_of
 spans-tokens_of text =
     let start : Rest = record { place = first_place; bytes = text } in
-    earlier 0 (behind_blanks start).place.at (scan (behind_blanks start)).tokens (length text) (omega arith)
-    (spans-scan (behind_blanks start) (length text) (behind_blanks_adds start (length text) (omega arith)))
+    earlier 0 (after_blanks start).place.at (scan (after_blanks start)).tokens (length text) (omega arith)
+    (spans-scan (after_blanks start) (length text) (behind_blanks_adds start (length text) (omega arith)))
 
 -- a text has no more tokens than bytes
 spans_count : (at : ℕ) (tokens : List Token) (len : ℕ) → AreSpans at tokens len → at + length tokens ≤ len

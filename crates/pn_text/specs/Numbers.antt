@@ -16,6 +16,6 @@ abbrev pub at_most : ℕ → ℕ → Option ℕ
 at_most most n = if nat_le n most then Some n else None
 
 -- the number of a text of 1 to 10 digits that is not above the most
-abbrev pub number_of : List ℕ → ℕ → Option ℕ
-number_of text most =
+abbrev pub small_number : List ℕ → ℕ → Option ℕ
+small_number text most =
     if nat_le 1 (length text) && nat_le (length text) 10 then option_and_then (at_most most) (decimal_from 0 text) else None

@@ -15,11 +15,11 @@ behind_byte place byte = record {
 }
 
 -- the place after bytes
-abbrev pub behind_bytes : Place → List ℕ → Place
-behind_bytes place [] = place
-behind_bytes place (byte ∷ bytes) = behind_bytes (behind_byte place byte) bytes
+abbrev pub after_bytes : Place → List ℕ → Place
+after_bytes place [] = place
+after_bytes place (byte ∷ bytes) = after_bytes (behind_byte place byte) bytes
 
 -- line and column are no further than the bytes before a place allow
-pub record IsWithin (place : Place) : Type 0 where
+pub record IsPlaceWithin (place : Place) : Type 0 where
   pub line : place.line ≤ place.at + 1
   pub col : place.col ≤ place.at + 1

@@ -1,6 +1,6 @@
 -- For proofs alone: what a scanner has still to read.
 use Rattle.std.specs.Prelude.{◌+◌, ◌<◌, ◌≤◌, ◌^◌, drop, length}
-use Rattle.pn_text.specs.Places.{IsWithin}
+use Rattle.pn_text.specs.Places.{IsPlaceWithin}
 use Rattle.pn_text.specs.Scans.{Scan, scan}
 use Rattle.pn_text.specs.declared.scanner.Scanner.TheInside.{Inside}
 
@@ -12,4 +12,4 @@ scan_left scanner = scan (record { place = scanner.place; bytes = drop scanner.p
 pub record IsReading (scanner : Inside) : Type 0 where
   pub short : length scanner.text.now + 1 < 2 ^ 32
   pub inside : scanner.place.at ≤ length scanner.text.now
-  pub within : IsWithin scanner.place
+  pub within : IsPlaceWithin scanner.place

@@ -1,6 +1,6 @@
 -- The tokens of a text.
 use Rattle.std.specs.Prelude.{ℕ, zero, suc, ◌+◌, ◌<◌, ◌≤◌, false, Option, Some, None, Result, Ok, Err, List, [], ◌∷◌, take, drop, length}
-use Rattle.pn_text.specs.Places.{first_place, behind_bytes}
+use Rattle.pn_text.specs.Places.{first_place, after_bytes}
 use Rattle.pn_text.specs.Blanks.{blank_len}
 use Rattle.pn_text.specs.Tokens.{lexeme_at}
 use Rattle.pn_text.specs.declared.place.Place.{Place}
@@ -27,12 +27,12 @@ pub record Rest : Type 0 where
   pub bytes : List ℕ
 
 -- what is left after n bytes
-abbrev pub behind : ℕ → Rest → Rest
-behind n rest = record { place = behind_bytes rest.place (take n rest.bytes); bytes = drop n rest.bytes }
+abbrev pub rest_after : ℕ → Rest → Rest
+rest_after n rest = record { place = after_bytes rest.place (take n rest.bytes); bytes = drop n rest.bytes }
 
 -- what is left after the blanks
-abbrev pub behind_blanks : Rest → Rest
-behind_blanks rest = behind (blank_len false rest.bytes) rest
+abbrev pub after_blanks : Rest → Rest
+after_blanks rest = rest_after (blank_len false rest.bytes) rest
 
 -- the token of this kind and length at a place
 abbrev pub token_at : Place → Lexeme → Token
@@ -46,7 +46,7 @@ onto token scan = record { tokens = token ∷ scan.tokens; ending = scan.ending 
 abbrev pub scan_on : (Rest → Scan) → Rest → Result (Option Lexeme) LexFault → Scan
 scan_on more rest (Err fault) = record { tokens = []; ending = AtFault fault }
 scan_on more rest (Ok None) = record { tokens = []; ending = AtEnd rest.place }
-scan_on more rest (Ok (Some found)) = onto (token_at rest.place found) (more (behind_blanks (behind found.len rest)))
+scan_on more rest (Ok (Some found)) = onto (token_at rest.place found) (more (after_blanks (rest_after found.len rest)))
 
 -- up to n tokens of what is left, which begins with no blank
 abbrev pub scan_in : ℕ → Rest → Scan
@@ -59,7 +59,7 @@ scan rest = scan_in (length rest.bytes) rest
 
 -- The tokens of a text, and how they end.
 unfoldable pub tokens_of : List ℕ → Scan
-tokens_of text = scan (behind_blanks (record { place = first_place; bytes = text }))
+tokens_of text = scan (after_blanks (record { place = first_place; bytes = text }))
 
 -- ---- taking one
 

@@ -62,9 +62,9 @@ stand_apart left (SignWord sign) = not (goes_on left (slice_index (sign_text sig
 stand_apart left right = not (is_path left)
 
 -- the words, each after its gap
-abbrev pub written : List (List ℕ × Word) → List ℕ
-written [] = []
-written (piece ∷ pieces) = piece.0 ++ (word_text piece.1 ++ written pieces)
+abbrev pub pieces_text : List (List ℕ × Word) → List ℕ
+pieces_text [] = []
+pieces_text (piece ∷ pieces) = piece.0 ++ (word_text piece.1 ++ pieces_text pieces)
 
 -- the words, without their gaps
 abbrev pub words_in : List (List ℕ × Word) → List Word

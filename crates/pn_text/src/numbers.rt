@@ -1,7 +1,7 @@
 //! Decimal numbers.
 
 ghost use Rattle.std.specs.Prelude.{◌≡◌, ◌≤◌, length};
-ghost use Rattle.pn_text.specs.Numbers.{decimal_from, number_of};
+ghost use Rattle.pn_text.specs.Numbers.{decimal_from, small_number};
 
 /// The number of these digits, of which there are at most ten, or None where a byte is no digit.
 fn decimal(digits: &[u8]) -> Option<u64>
@@ -21,7 +21,7 @@ fn decimal(digits: &[u8]) -> Option<u64>
 /// Returns the decimal number that the text spells. None exactly where the text isn't 1 to 10 digits, or the number is above
 /// `most`. Zeros may lead.
 pub fn number(text: &[u8], most: u64) -> Option<u64>
-    ensures { result ≡ number_of text.now most }
+    ensures { result ≡ small_number text.now most }
 {
     if text.is_empty() || text.len() > 10 {
         return None;

@@ -1,7 +1,7 @@
 //! Places in a text.
 
 ghost use Rattle.std.specs.Prelude.{◌≡◌, ◌+◌, ◌<◌, ◌≤◌, ◌^◌, length};
-ghost use Rattle.pn_text.specs.Places.{behind_byte, behind_bytes, IsWithin};
+ghost use Rattle.pn_text.specs.Places.{behind_byte, after_bytes, IsPlaceWithin};
 
 /// A place in a text.
 #[derive(Clone, Copy, Debug, PartialEq, Eq, Drop)]
@@ -50,11 +50,11 @@ fn behind_byte(place: Place, byte: u8) -> Place
 
 /// The place after the bytes.
 pub(crate) fn behind_bytes(place: Place, bytes: &[u8]) -> Place
-    requires within { IsWithin place }
+    requires within { IsPlaceWithin place }
     requires short { place.at + length bytes.now + 1 < 2 ^ 32 }
-    ensures behind { result ≡ behind_bytes place bytes.now }
+    ensures behind { result ≡ after_bytes place bytes.now }
     ensures at { result.at ≡ place.at + length bytes.now }
-    ensures within { IsWithin result }
+    ensures within { IsPlaceWithin result }
 {
     let mut behind = place;
     for byte in bytes {

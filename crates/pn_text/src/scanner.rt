@@ -1,8 +1,8 @@
 //! The tokens of a text, one after another.
 
 ghost use Rattle.std.specs.Prelude.{◌≡◌, ◌+◌, ◌<◌, ◌≤◌, ◌^◌, length, drop};
-ghost use Rattle.pn_text.specs.Scans.{tokens_of, next_of, rest_of, place_of, AreSpans, behind_blanks};
-ghost use Rattle.pn_text.specs.Places.{IsWithin};
+ghost use Rattle.pn_text.specs.Scans.{tokens_of, next_of, rest_of, place_of, AreSpans, after_blanks};
+ghost use Rattle.pn_text.specs.Places.{IsPlaceWithin};
 
 use crate::blanks::blank_len;
 use crate::lexeme::first_lexeme;
@@ -32,12 +32,12 @@ impl<'a> Model for Scanner<'a> {
 
 /// The place after the blanks that stand at a place in the text.
 fn behind_blanks(text: &[u8], place: Place) -> Place
-    requires within { IsWithin place }
+    requires within { IsPlaceWithin place }
     requires short { length text.now + 1 < 2 ^ 32 }
     requires inside { place.at ≤ length text.now }
-    ensures behind { result ≡ (behind_blanks (record { place = place; bytes = drop place.at text.now })).place }
-    ensures bytes { drop result.at text.now ≡ (behind_blanks (record { place = place; bytes = drop place.at text.now })).bytes }
-    ensures within { IsWithin result }
+    ensures behind { result ≡ (after_blanks (record { place = place; bytes = drop place.at text.now })).place }
+    ensures bytes { drop result.at text.now ≡ (after_blanks (record { place = place; bytes = drop place.at text.now })).bytes }
+    ensures within { IsPlaceWithin result }
     ensures inside { result.at ≤ length text.now }
 {
     let rest = &text[place.at..];

@@ -15,7 +15,7 @@ use Rattle.tramp_spec.specs.Banks.{bank_len}
 use Rattle.tramp_spec.specs.Bodies.{Stands}
 use Rattle.tramp_spec.specs.Marks.{tool}
 use Rattle.tramp_spec.specs.MovedWords.{tools}
-use Rattle.tramp_spec.specs.Routes.{Route, Does}
+use Rattle.tramp_spec.specs.Routes.{Route, BodyDoes}
 use Rattle.tramp_spec.specs.Statements.{up_code, down_code, put_code, start_code, stop_code, act_code, slot_of}
 use Rattle.tramp_spec.specs.Steps.{Bench}
 use Rattle.tramp_spec.specs.declared.mark.MarkedWord.{MarkedWord}
@@ -155,7 +155,7 @@ IsInBank slots (Put v n) = (2 ≤ slot_of slots v) × (slot_of slots v < bank_le
 IsInBank slots (Start v) = (2 ≤ slot_of slots v) × (slot_of slots v + 1 < bank_len)
 IsInBank slots (Stop v) = (2 ≤ slot_of slots v) × (slot_of slots v + 1 < bank_len)
 
-pub act_does : (slots : List ℕ) (a : Act) → IsInBank slots a → Does (tools (act_code slots a)) (act_bank slots a)
+pub act_does : (slots : List ℕ) (a : Act) → IsInBank slots a → BodyDoes (tools (act_code slots a)) (act_bank slots a)
 act_does slots (Up v) f at ticks x st = does_of (tools (up_code (slot_of slots v))) at ticks x st _ (up (slot_of slots v) at ticks x f.0 st f.1)
 act_does slots (Down v) f at ticks x st = does_of (tools (down_code (slot_of slots v))) at ticks x st _ (down (slot_of slots v) at ticks x f.0 st f.1)
 act_does slots (Put v n) f at ticks x st = does_of (tools (put_code (slot_of slots v) n)) at ticks x st _ (put (slot_of slots v) at ticks x f.0 n st f.1 f.2)

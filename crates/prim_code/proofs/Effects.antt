@@ -11,7 +11,7 @@ use Rattle.rv_word.specs.Values.{wrap}
 use Rattle.tramp_spec.specs.Routes.{Effect}
 use Rattle.tramp_spec.specs.Statements.{minus_one, slot_of}
 use Rattle.tramp_spec.specs.Values.{meets}
-use Rattle.prim_code.specs.Named.{changed}
+use Rattle.prim_code.specs.Named.{changed_variable}
 
 -- the acts on slot s
 abbrev pub up_bank : ℕ → Effect
@@ -50,7 +50,7 @@ bank_on (Start v) s = start_bank s
 bank_on (Stop v) s = stop_bank s
 
 abbrev pub act_bank : List ℕ → Act → Effect
-act_bank slots a = bank_on a (slot_of slots (changed a))
+act_bank slots a = bank_on a (slot_of slots (changed_variable a))
 
 -- conditions
 abbrev pub left_in : List ℕ → Left → List ℕ → List ℕ → Option ℕ

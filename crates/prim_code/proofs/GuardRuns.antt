@@ -24,7 +24,7 @@ use Rattle.tramp_spec.specs.Bodies.{Stands}
 use Rattle.tramp_spec.specs.Jumps.{put_number}
 use Rattle.tramp_spec.specs.Marks.{tool}
 use Rattle.tramp_spec.specs.MovedWords.{tools}
-use Rattle.tramp_spec.specs.Routes.{Route, Effect, Does}
+use Rattle.tramp_spec.specs.Routes.{Route, Effect, BodyDoes}
 use Rattle.tramp_spec.specs.Statements.{load_slot, slot_of, act_code, unless, guarded, under, code_of}
 use Rattle.tramp_spec.specs.Steps.{Bench}
 use Rattle.tramp_spec.specs.Values.{compares, meets}
@@ -75,7 +75,7 @@ argument_is regs (suc (suc (suc (suc (suc (suc (suc zero))))))) l = refl
 argument_is regs (suc (suc (suc (suc (suc (suc (suc (suc a)))))))) l = absurd (omega arith)
 
 -- after the words of a guard, of which the last, word i, is the branch over the m words of the rest
-module _ (pre rest : List MarkedWord) (m : ℕ) (many : length rest ≡ m) (near : m + 1 < 1024) (f : Effect) (does : Does rest f) (at ticks : ℕ) (x : Bench) (st : Stands (pre ++ rest) at x) where
+module _ (pre rest : List MarkedWord) (m : ℕ) (many : length rest ≡ m) (near : m + 1 < 1024) (f : Effect) (does : BodyDoes rest f) (at ticks : ℕ) (x : Bench) (st : Stands (pre ++ rest) at x) where
   branches : (i a b : ℕ) (c : Cmp) (rd v n : ℕ) (r : Reach (pre ++ rest) at ticks x st i a b x.bank) → rd < 32 → length pre ≡ i + 1 → length (pre ++ rest) ≡ i + (m + 1)
       → slice_get (pre ++ rest) i ≡ Some (tool (word_of (unless c rd (4 * (m + 1))))) → reg (r.x).regs rd ≡ v → reg (r.x).regs 31 ≡ n
       → (y : Bench) × Route (pre ++ rest) at ticks 0 (length (pre ++ rest)) x y × (y.bank ≡ (if compares c v n then f ticks (arguments_of x.regs) x.bank else x.bank))
@@ -107,8 +107,8 @@ IsLeftInBank slots (Argument a) = a < 8
 abbrev pub IsCondInBank : List ℕ → Cond → Type 0
 IsCondInBank slots c = IsLeftInBank slots c.left × (c.right < 2 ^ 31)
 
-guard_by : (slots : List ℕ) (l : Left) (c : Cmp) (n : ℕ) (rest : List Instr) (f : Effect) → IsLeftInBank slots l → n < 2 ^ 31 → length rest + 1 < 1024 → Does (tools rest) f
-    → Does (tools (guarded slots l c n rest)) (guard_bank slots (record { left = l; cmp = c; right = n }) f)
+guard_by : (slots : List ℕ) (l : Left) (c : Cmp) (n : ℕ) (rest : List Instr) (f : Effect) → IsLeftInBank slots l → n < 2 ^ 31 → length rest + 1 < 1024 → BodyDoes (tools rest) f
+    → BodyDoes (tools (guarded slots l c n rest)) (guard_bank slots (record { left = l; cmp = c; right = n }) f)
 guard_by slots (Counter v) c n rest f h k near d at ticks x st =
     let s = slot_of slots v in
     let pre = tools (load_slot s ++ put_number 31 n ++ unless c 5 (4 * (length rest + 1)) ∷ []) in
@@ -135,8 +135,8 @@ some_words : (l : Left) → 1 ≤ left_words l
 some_words (Counter v) = omega arith
 some_words (Argument a) = omega arith
 
-pub under_does : (slots : List ℕ) (cs : List Cond) (rest : List Instr) (f : Effect) → AllByRecursion (IsCondInBank slots) cs → sum_by cond_words cs + length rest < 1024 → Does (tools rest) f
-    → Does (tools (under slots cs rest)) (under_bank slots cs f)
+pub under_does : (slots : List ℕ) (cs : List Cond) (rest : List Instr) (f : Effect) → AllByRecursion (IsCondInBank slots) cs → sum_by cond_words cs + length rest < 1024 → BodyDoes (tools rest) f
+    → BodyDoes (tools (under slots cs rest)) (under_bank slots cs f)
 under_does slots [] rest f h near d = d
 under_does slots (c ∷ cs) rest f h near d =
     let n = sum_by-cons cond_words c cs in
@@ -150,14 +150,14 @@ pub record IsStmtInBank (slots : List ℕ) (s : Stmt) : Type 0 where
   pub conds : AllByRecursion (IsCondInBank slots) s.conds
   pub act : IsInBank slots s.act
 
-stmt_does : (slots : List ℕ) (s : Stmt) → IsStmtInBank slots s → Does (tools (under slots s.conds (act_code slots s.act))) (under_bank slots s.conds (act_bank slots s.act))
+stmt_does : (slots : List ℕ) (s : Stmt) → IsStmtInBank slots s → BodyDoes (tools (under slots s.conds (act_code slots s.act))) (under_bank slots s.conds (act_bank slots s.act))
 stmt_does slots s h =
     let l = length_act slots s.act in
     let n = h.short in under_does slots s.conds (act_code slots s.act) (act_bank slots s.act) h.conds (omega arith) (act_does slots s.act h.act)
 
-pub code_does : (slots : List ℕ) (stmts : List Stmt) → AllByRecursion (IsStmtInBank slots) stmts → Does (tools (code_of slots stmts)) (stmts_bank slots stmts)
+pub code_does : (slots : List ℕ) (stmts : List Stmt) → AllByRecursion (IsStmtInBank slots) stmts → BodyDoes (tools (code_of slots stmts)) (stmts_bank slots stmts)
 code_does slots [] h = λ at ticks x st. (x, none [] at ticks 0 x, refl)
 code_does slots (s ∷ ss) h =
-    subst (λ b. Does b (stmts_bank slots (s ∷ ss))) (sym (map-append (λ i. tool (word_of i)) (under slots s.conds (act_code slots s.act)) (code_of slots ss)))
+    subst (λ b. BodyDoes b (stmts_bank slots (s ∷ ss))) (sym (map-append (λ i. tool (word_of i)) (under slots s.conds (act_code slots s.act)) (code_of slots ss)))
     (does_both (tools (under slots s.conds (act_code slots s.act))) (tools (code_of slots ss)) (under_bank slots s.conds (act_bank slots s.act)) (stmts_bank slots ss)
     (stmt_does slots s h.0) (code_does slots ss h.1))

@@ -17,9 +17,9 @@ use Rattle.tramp_spec.specs.Banks.{bank_len}
 use Rattle.tramp_spec.specs.Routes.{Effect}
 use Rattle.tramp_spec.specs.Slots.{VariableSlot, width, places, ArePlaces, running}
 use Rattle.tramp_spec.specs.Statements.{slot_of}
-use Rattle.tramp_spec.specs.Values.{meets, left_value, all_hold, acted, values_behind, values_after}
+use Rattle.tramp_spec.specs.Values.{meets, left_value, all_hold, values_after_act, values_behind, values_after}
 use Rattle.prim_code.specs.Fitting.{Names, IsLeftOf, IsActOf, IsCondOf, IsStmtOf, AreStmtsOf}
-use Rattle.prim_code.specs.Named.{changed}
+use Rattle.prim_code.specs.Named.{changed_variable}
 use Rattle.prim_code.proofs.Effects.{bank_on, act_bank, left_in, met, under_bank, stmts_bank}
 use Rattle.prim_code.proofs.Fits.{FitsPlace, Suits, value_on, if_both, act_leaves, act_length, own}
 
@@ -48,7 +48,7 @@ length_places (s ∷ slots) (x ∷ vars) e = ap suc (length_places slots vars (o
 record PlaceOf (slots : List ℕ) (vars : List Var) (a : Act) : Type 0 where
   timer : Bool
   suits : Suits a timer
-  is : slice_get (places slots vars) (changed a) ≡ Some (place (slot_of slots (changed a)) timer)
+  is : slice_get (places slots vars) (changed_variable a) ≡ Some (place (slot_of slots (changed_variable a)) timer)
 
 place_of : (slots : List ℕ) (vars : List Var) (a : Act) → length slots ≡ length vars → IsActOf vars a → PlaceOf slots vars a
 place_of slots vars (Up v) e h = record { timer = false; suits = refl; is = place_is slots vars v false e h }
@@ -57,7 +57,7 @@ place_of slots vars (Put v n) e h = record { timer = false; suits = (refl, h.1);
 place_of slots vars (Start v) e h = record { timer = true; suits = refl; is = place_is slots vars v true e h }
 place_of slots vars (Stop v) e h = record { timer = true; suits = refl; is = place_is slots vars v true e h }
 
-acted_is : (a : Act) (values : List ℕ) → acted a values ≡ slice_set values (changed a) (value_on a (slice_index values (changed a)))
+acted_is : (a : Act) (values : List ℕ) → values_after_act a values ≡ slice_set values (changed_variable a) (value_on a (slice_index values (changed_variable a)))
 acted_is (Up v) values = refl
 acted_is (Down v) values = refl
 acted_is (Put v n) values = refl
@@ -93,11 +93,11 @@ module _ (slots : List ℕ) (vars : List Var) (same : length slots ≡ length va
       ∙ nested (meets c.cmp c.right (left_value c.left arguments values)) (all_hold cs arguments values) (f ticks arguments k) k)
 
   -- an act on one of the places
-  act_fits : (a : Act) (timer : Bool) (n : ℕ) (values k : List ℕ) → ArePlaces (places slots vars) → slice_get (places slots vars) (changed a) ≡ Some (place (slot_of slots (changed a)) timer) → Suits a timer
+  act_fits : (a : Act) (timer : Bool) (n : ℕ) (values k : List ℕ) → ArePlaces (places slots vars) → slice_get (places slots vars) (changed_variable a) ≡ Some (place (slot_of slots (changed_variable a)) timer) → Suits a timer
       → length values ≡ length (places slots vars) → length k ≡ bank_len → ticks < 2 ^ 64 → Fits (places slots vars) (suc n) values readings ticks k
-      → Fits (places slots vars) n (slice_set values (changed a) (value_on a (slice_index values (changed a)))) readings ticks (act_bank slots a ticks arguments k)
+      → Fits (places slots vars) n (slice_set values (changed_variable a) (value_on a (slice_index values (changed_variable a)))) readings ticks (act_bank slots a ticks arguments k)
   act_fits a timer n values k pl e u lv lk lt h i q g =
-      let v = changed a in
+      let v = changed_variable a in
       let s = slot_of slots v in
       let p = place s timer in
       let new = value_on a (slice_index values v) in
@@ -130,7 +130,7 @@ module _ (slots : List ℕ) (vars : List Var) (same : length slots ≡ length va
   stmt_fits s n values k pl u lv lk lt h =
       let p = place_of slots vars s.act same u.act in
       subst (Fits (places slots vars) n (values_behind s arguments values) readings ticks) (sym (under_is s.conds (act_bank slots s.act) (suc n) values k u.conds h))
-      (both (all_hold s.conds arguments values) n (acted s.act values) values (act_bank slots s.act ticks arguments k) k
+      (both (all_hold s.conds arguments values) n (values_after_act s.act values) values (act_bank slots s.act ticks arguments k) k
       (subst (λ w. Fits (places slots vars) n w readings ticks (act_bank slots s.act ticks arguments k)) (sym (acted_is s.act values)) (act_fits s.act p.timer n values k pl p.is p.suits lv lk lt h))
       (λ i q g. less q.timer q.slot n (slice_index values i) (readings i) ticks k (h i q g)))
 
@@ -140,8 +140,8 @@ under_keeps P slots (c ∷ cs) f ticks arguments k a b = if_both P (met slots c 
 
 length_behind : (s : Stmt) (arguments values : List ℕ) → length (values_behind s arguments values) ≡ length values
 length_behind s arguments values =
-    if_both (λ m. length m ≡ length values) (all_hold s.conds arguments values) (acted s.act values) values
-    (λ z. ap length (acted_is s.act values) ∙ length-set values (changed s.act) _) (λ z. refl)
+    if_both (λ m. length m ≡ length values) (all_hold s.conds arguments values) (values_after_act s.act values) values
+    (λ z. ap length (acted_is s.act values) ∙ length-set values (changed_variable s.act) _) (λ z. refl)
 
 pub fits : (slots : List ℕ) (vars : List Var) (stmts : List Stmt) (values : List ℕ) (readings : ℕ → ℕ) (n ticks : ℕ) (arguments k : List ℕ)
     → length slots ≡ length vars → ArePlaces (places slots vars) → AreStmtsOf vars stmts → length values ≡ length (places slots vars) → length k ≡ bank_len → ticks < 2 ^ 64
@@ -151,7 +151,7 @@ fits slots vars (s ∷ ss) values readings n ticks arguments k same pl u lv lk l
     let e : suc (length ss) + n ≡ suc (length ss + n) = omega arith in
     fits slots vars ss (values_behind s arguments values) readings n ticks arguments (under_bank slots s.conds (act_bank slots s.act) ticks arguments k) same pl u.1
     (length_behind s arguments values ∙ lv)
-    (under_keeps (λ m. length m ≡ bank_len) slots s.conds (act_bank slots s.act) ticks arguments k lk (act_length s.act (slot_of slots (changed s.act)) ticks arguments k ∙ lk)) lt
+    (under_keeps (λ m. length m ≡ bank_len) slots s.conds (act_bank slots s.act) ticks arguments k lk (act_length s.act (slot_of slots (changed_variable s.act)) ticks arguments k ∙ lk)) lt
     (stmt_fits slots vars same readings ticks arguments s (length ss + n) values k pl u.0 lv lk lt (subst (λ m. Fits (places slots vars) m values readings ticks k) e h))
 
 -- doublewords that are in no place
@@ -166,4 +166,4 @@ leaves_others slots vars (s ∷ ss) ticks q arguments k same u h =
     let m = under_bank slots s.conds (act_bank slots s.act) ticks arguments k in
     leaves_others slots vars ss ticks q arguments m same u.1 h
     ∙ under_keeps (λ m. slice_index m q ≡ slice_index k q) slots s.conds (act_bank slots s.act) ticks arguments k refl
-    (act_leaves s.act p.timer (slot_of slots (changed s.act)) ticks q arguments k p.suits (h (changed s.act) (place (slot_of slots (changed s.act)) p.timer) p.is))
+    (act_leaves s.act p.timer (slot_of slots (changed_variable s.act)) ticks q arguments k p.suits (h (changed_variable s.act) (place (slot_of slots (changed_variable s.act)) p.timer) p.is))

@@ -12,7 +12,7 @@ use Rattle.pn_types.specs.declared.plan.Var.{Var}
 use Rattle.prim_code.specs.Counts.{stmt_words, word_count}
 use Rattle.prim_code.specs.Fitting.{Names, IsLeftOf, IsActOf, IsCondOf, IsStmtOf, AreStmtsOf}
 use Rattle.prim_code.specs.Laws.{StatementsCompile}
-use Rattle.prim_code.specs.Named.{changed, IsLeftBelow, IsStmtBelow}
+use Rattle.prim_code.specs.Named.{changed_variable, IsLeftBelow, IsStmtBelow}
 
 -- of each element, and so at each index
 to_all : {A : Type 0} (P Q : A → Type 0) → ((x : A) → P x → Q x) → (xs : List A) → AllByRecursion P xs → All Q xs
@@ -29,7 +29,7 @@ left_below : (vars : List Var) (l : Left) → IsLeftOf vars l → IsLeftBelow (l
 left_below vars (Counter v) h = named_below vars v _ h
 left_below vars (Argument a) h = tt
 
-act_below : (vars : List Var) (a : Act) → IsActOf vars a → changed a < length vars
+act_below : (vars : List Var) (a : Act) → IsActOf vars a → changed_variable a < length vars
 act_below vars (Up v) h = named_below vars v _ h
 act_below vars (Down v) h = named_below vars v _ h
 act_below vars (Put v n) h = named_below vars v _ h.0

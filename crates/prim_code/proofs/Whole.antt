@@ -14,9 +14,9 @@ use Rattle.rv_word.specs.Registers.{arguments_of}
 use Rattle.rv_word.specs.Values.{wrap}
 use Rattle.rv_word.specs.declared.instr.Instr.{Instr}
 use Rattle.tramp_spec.specs.Banks.{bank_len}
-use Rattle.tramp_spec.specs.Bodies.{AreTool, Stands, finished}
+use Rattle.tramp_spec.specs.Bodies.{AreTool, Stands, bank_at_end}
 use Rattle.tramp_spec.specs.MovedWords.{tools}
-use Rattle.tramp_spec.specs.Routes.{Does}
+use Rattle.tramp_spec.specs.Routes.{BodyDoes}
 use Rattle.tramp_spec.specs.Slots.{VariableSlot, width, places, ArePlaces, IsSlotOf, running, read_place}
 use Rattle.tramp_spec.specs.Statements.{body_of, code_of, slot_of}
 use Rattle.tramp_spec.specs.Values.{values_after}
@@ -63,7 +63,7 @@ module _ (slots : List ℕ) (vars : List Var) (same : length slots ≡ length va
   stmts_in [] h = tt
   stmts_in (s ∷ ss) h = (record { short = (h.0).short; conds = conds_in s.conds (h.0).conds; act = act_in s.act (h.0).act }, stmts_in ss h.1)
 
-body_does : (slots : List ℕ) (stmts : List Stmt) → AllByRecursion (IsStmtInBank slots) stmts → Does (body_of slots stmts) (stmts_bank slots stmts)
+body_does : (slots : List ℕ) (stmts : List Stmt) → AllByRecursion (IsStmtInBank slots) stmts → BodyDoes (body_of slots stmts) (stmts_bank slots stmts)
 unfolding body_of
 body_does slots stmts h = code_does slots stmts h
 
@@ -141,7 +141,7 @@ stop_alone = always (Stop 0) ∷ []
 stop_alone_fits : AllByRecursion (IsStmtInBank (2 ∷ [])) stop_alone
 stop_alone_fits = (record { short = omega arith; conds = tt; act = (omega arith, let n = bank_size in omega arith) }, tt)
 
-pub idle_stop : (at ticks : ℕ) (x : Bench) → Stands (body_of (2 ∷ []) stop_alone) at x → slice_index x.bank 3 ≡ 0 → finished (body_of (2 ∷ []) stop_alone) at x ticks ≡ x.bank
+pub idle_stop : (at ticks : ℕ) (x : Bench) → Stands (body_of (2 ∷ []) stop_alone) at x → slice_index x.bank 3 ≡ 0 → bank_at_end (body_of (2 ∷ []) stop_alone) at x ticks ≡ x.bank
 idle_stop at ticks x st e =
     leaves (body_of (2 ∷ []) stop_alone) (stmts_bank (2 ∷ []) stop_alone) (body_does (2 ∷ []) stop_alone stop_alone_fits) at ticks x st
     ∙ cond-true (slice_index x.bank 3 == 0) x.bank _ (eq-eqb (slice_index x.bank 3) 0 e)

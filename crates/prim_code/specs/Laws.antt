@@ -3,7 +3,7 @@ use Rattle.std.specs.Prelude.{◌≡◌, ℕ, ◌+◌, ◌*◌, ◌^◌, ◌<◌
 use Rattle.pn_types.specs.declared.plan.Stmt.{Stmt}
 use Rattle.pn_types.specs.declared.plan.Var.{Var}
 use Rattle.rv_word.specs.Registers.{arguments_of}
-use Rattle.tramp_spec.specs.Bodies.{Keeps, Harmless, Stands, finished}
+use Rattle.tramp_spec.specs.Bodies.{Keeps, Harmless, Stands, bank_at_end}
 use Rattle.tramp_spec.specs.Routes.{Route}
 use Rattle.tramp_spec.specs.Slots.{places, ArePlaces, IsSlotOf}
 use Rattle.tramp_spec.specs.Statements.{body_of}
@@ -21,16 +21,16 @@ pub record DoesStatements (slots : List ℕ) (vars : List Var) (stmts : List Stm
   -- a run comes to its end, with all registers but x5 and x31 as they were
   pub ends : (at ticks : ℕ) (x : Bench) → Stands (body_of slots stmts) at x
       → (y : Bench) × Route (body_of slots stmts) at ticks 0 (length (body_of slots stmts)) x y × Keeps x y
-      × (y.bank ≡ finished (body_of slots stmts) at x ticks)
+      × (y.bank ≡ bank_at_end (body_of slots stmts) at x ticks)
   -- slots that stand for values stand for those after the statements; each statement may take a start of those to spare
   pub values : (at ticks spare : ℕ) (x : Bench) (values : List ℕ) → Stands (body_of slots stmts) at x → ticks < 2 ^ 64
       → length values ≡ length vars
       → StandFor (places slots vars) (length stmts + spare) values x.bank
-      → StandFor (places slots vars) spare (values_after stmts (arguments_of x.regs) values) (finished (body_of slots stmts) at x ticks)
-      × SameReadings (places slots vars) ticks x.bank (finished (body_of slots stmts) at x ticks)
+      → StandFor (places slots vars) spare (values_after stmts (arguments_of x.regs) values) (bank_at_end (body_of slots stmts) at x ticks)
+      × SameReadings (places slots vars) ticks x.bank (bank_at_end (body_of slots stmts) at x ticks)
   -- no other doubleword changes
   pub others : (at ticks q : ℕ) (x : Bench) → Stands (body_of slots stmts) at x → (IsSlotOf (places slots vars) q → ⊥)
-      → slice_index (finished (body_of slots stmts) at x ticks) q ≡ slice_index x.bank q
+      → slice_index (bank_at_end (body_of slots stmts) at x ticks) q ≡ slice_index x.bank q
 
 -- So it is for all statements that fit the variables, where no two variables share a slot.
 abbrev pub StatementsWork : Type 0

@@ -6,7 +6,7 @@ use Rattle.pn_types.specs.declared.plan.Act.TheVariants.{Up, Down, Put, Start, S
 use Rattle.pn_types.specs.declared.plan.Left.TheVariants.{Counter, Argument}
 use Rattle.pn_types.specs.declared.plan.Stmt.{Stmt}
 use Rattle.rv_word.specs.Words.{word_of}
-use Rattle.tramp_spec.specs.Bodies.{Stands, finished}
+use Rattle.tramp_spec.specs.Bodies.{Stands, bank_at_end}
 use Rattle.tramp_spec.specs.Marks.{tool}
 use Rattle.tramp_spec.specs.Statements.{body_of, unless}
 use Rattle.tramp_spec.specs.Steps.{Bench}
@@ -43,4 +43,4 @@ pub record StatementRows : Type 0 where
   pub at_most : word_of (unless Le 5 20) ≡ 0x005fea63
   -- where a timer has no start, a stop leaves the bank as it is
   pub idle_stop : (at ticks : ℕ) (x : Bench) → Stands (body_of (2 ∷ []) (always (Stop 0) ∷ [])) at x → slice_index x.bank 3 ≡ 0
-      → finished (body_of (2 ∷ []) (always (Stop 0) ∷ [])) at x ticks ≡ x.bank
+      → bank_at_end (body_of (2 ∷ []) (always (Stop 0) ∷ [])) at x ticks ≡ x.bank

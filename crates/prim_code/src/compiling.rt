@@ -59,7 +59,7 @@ fn append_cond(cond: &Cond, slots: &[u32], rest: u32, out: &mut Vec<MarkedWord>)
 
 /// Appends an act's words.
 fn append_act(act: Act, slots: &[u32], out: &mut Vec<MarkedWord>)
-    requires named { named.changed act < length slots.now }
+    requires named { named.changed_variable act < length slots.now }
     requires room { vec_len out.old + counts.act_words act ≤ vec_capacity out.old }
     ensures words { out.new.items ≡ out.old.items ++ tools (table.act_code slots.now act) }
     ensures len { vec_len out.new ≡ vec_len out.old + counts.act_words act }

@@ -12,7 +12,7 @@ use Rattle.pn_types.specs.Settings.{AreInRange}
 use Rattle.quanta_log.specs.declared.version.Version.{Version}
 use Rattle.quanta_log.specs.declared.version.Version.TheVariants.{One, Two}
 use Rattle.quanta_log.specs.Fields.{magic, head_len, most_harts, head_fields, number}
-use Rattle.quanta_log.specs.Meaning.{begins_as, version_of, harts_of, count_of, start_of, settings_of, head_fault}
+use Rattle.quanta_log.specs.Meaning.{begins_as, version_of, log_harts, count_of, start_of, settings_of, head_fault}
 use Rattle.quanta_log.specs.Spelling.{start_number, shared_head, head, IsPlain}
 use Rattle.outside.specs.Outside.{IsBytes}
 use Rattle.quanta_log.proofs.CheckLemmas.{all_lie, no_faults}
@@ -48,7 +48,7 @@ shared_again a0 a1 a2 a3 a4 a5 a6 a7 s n rest is few =
 pub record IsHead (v : Version) (b : List ℕ) (s : Settings) (n : ℕ) (rest : List ℕ) : Type 0 where
   pub version : version_of b ≡ Some v
   pub settings : settings_of v b ≡ s
-  pub harts : harts_of b ≡ s.harts
+  pub harts : log_harts b ≡ s.harts
   pub count : count_of b ≡ n
   pub fine : head_fault v b ≡ None
   pub behind : drop (head_len v) b ≡ rest
@@ -141,7 +141,7 @@ start_back (suc (suc n)) h = absurd (omega arith)
 pub record IsSpelledHead (v : Version) (b : List ℕ) : Type 0 where
   pub bytes : b ≡ head v (settings_of v b) (count_of b) ++ drop (head_len v) b
   pub settings : AreInRange (settings_of v b)
-  pub harts : (1 ≤ harts_of b) × (harts_of b ≤ most_harts v)
+  pub harts : (1 ≤ log_harts b) × (log_harts b ≤ most_harts v)
   pub plain : IsPlain v (settings_of v b)
   pub few : count_of b ≤ MAX_QUANTA
 
@@ -196,7 +196,7 @@ head_spelled Two b bytes l e fine =
 
 -- ---- what the ranges of a head say
 
-pub some_harts : (v : Version) (b : List ℕ) → head_fault v b ≡ None → 1 ≤ harts_of b
+pub some_harts : (v : Version) (b : List ℕ) → head_fault v b ≡ None → 1 ≤ log_harts b
 unfolding head_fault
 some_harts v b fine = (all_lie b (head_fields v) fine).0.0
 

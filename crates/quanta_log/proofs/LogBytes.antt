@@ -11,7 +11,7 @@ use Rattle.pn_types.specs.declared.quantum.Quantum.{Quantum}
 use Rattle.quanta_log.specs.declared.fault.LogFault.{LogFault}
 use Rattle.quanta_log.specs.declared.fault.LogFault.TheVariants.{Short, Trailing}
 use Rattle.quanta_log.specs.Fields.{head_len, entry_len, log_len, most_harts}
-use Rattle.quanta_log.specs.Meaning.{version_of, harts_of, count_of, settings_of, quanta_at, fault_where, head_fault, entries_fault, log_fault, unless_fault, meaning_as, meaning_of}
+use Rattle.quanta_log.specs.Meaning.{version_of, log_harts, count_of, settings_of, quanta_at, fault_where, head_fault, entries_fault, log_fault, unless_fault, meaning_as, meaning_of}
 use Rattle.quanta_log.specs.Spelling.{head, entry, spelled, IsQuantum, CanSpell}
 use Rattle.outside.specs.Outside.{IsBytes}
 use Rattle.quanta_log.proofs.CheckLemmas.{each_none, none_at_all, not_less, at_least}
@@ -46,11 +46,11 @@ log_again v s qs can =
     let few : s.harts ≤ 32 = can.settings.harts.1 in
     let es : AreGood v s.harts b (head_len v) qs = entries_again v s.harts b (head_len v) qs few can.quanta h.behind in
     let total : length b ≡ log_len v (count_of b) = h.len ∙ ap (λ k. head_len v + k) (entries_len v qs) ∙ ap (λ k. head_len v + k * entry_len v) (sym h.count) in
-    let entries : entries_fault v (harts_of b) b (count_of b) (head_len v) ≡ None = ap (λ k. entries_fault v k b (count_of b) (head_len v)) h.harts ∙ ap (λ k. entries_fault v s.harts b k (head_len v)) h.count ∙ es.fine in
+    let entries : entries_fault v (log_harts b) b (count_of b) (head_len v) ≡ None = ap (λ k. entries_fault v k b (count_of b) (head_len v)) h.harts ∙ ap (λ k. entries_fault v s.harts b k (head_len v)) h.count ∙ es.fine in
     let none : log_fault v b ≡ None = none_at_all (fault_where (nat_lt (length b) (head_len v)) (Short (length b))
     ∷ head_fault v b
     ∷ fault_where (nat_lt (length b) (log_len v (count_of b))) (Short (length b))
-    ∷ entries_fault v (harts_of b) b (count_of b) (head_len v)
+    ∷ entries_fault v (log_harts b) b (count_of b) (head_len v)
     ∷ fault_where (nat_lt (log_len v (count_of b)) (length b)) (Trailing (log_len v (count_of b)))
     ∷ [])
     (not_less (length b) (head_len v) (Short (length b)) (let l = h.len in omega arith), (h.fine, (not_less (length b) (log_len v (count_of b)) (Short (length b)) (omega (arith, total)), (entries, (not_less (log_len v (count_of b)) (length b) (Trailing (log_len v (count_of b))) (omega (arith, total)), tt))))) in
@@ -67,7 +67,7 @@ unless_ok : {A : Type 0} (f : Option LogFault) (x y : A) → unless_fault f x �
 unless_ok None x y e = (refl, cc)
 unless_ok (Some f) x y e = absurd cc
 
-settings_harts : (v : Version) (b : List ℕ) → (settings_of v b).harts ≡ harts_of b
+settings_harts : (v : Version) (b : List ℕ) → (settings_of v b).harts ≡ log_harts b
 settings_harts One b = refl
 settings_harts Two b = refl
 
@@ -85,13 +85,13 @@ log_spelled b v s qs bytes is meant =
     let each = each_none (fault_where (nat_lt (length b) (head_len v)) (Short (length b))
     ∷ head_fault v b
     ∷ fault_where (nat_lt (length b) (log_len v (count_of b))) (Short (length b))
-    ∷ entries_fault v (harts_of b) b (count_of b) (head_len v)
+    ∷ entries_fault v (log_harts b) b (count_of b) (head_len v)
     ∷ fault_where (nat_lt (log_len v (count_of b)) (length b)) (Trailing (log_len v (count_of b)))
     ∷ []) parts.0 in
     let long = at_least (length b) (head_len v) (Short (length b)) each.0 in
     let h = head_spelled v b bytes long is each.1.0 in
     let enough = at_least (length b) (log_len v n) (Short (length b)) each.1.1.0 in
-    let es = entries_spelled v (harts_of b) b (head_len v) n h.harts.0 bytes enough each.1.1.1.0 in
+    let es = entries_spelled v (log_harts b) b (head_len v) n h.harts.0 bytes enough each.1.1.1.0 in
     let over = at_least (log_len v n) (length b) (Trailing (log_len v n)) each.1.1.1.1.0 in
     let harts = settings_harts v b in
     let end : drop (head_len v + n * entry_len v) b ≡ [] = drop_all (head_len v + n * entry_len v) b over in

@@ -25,8 +25,8 @@ version_of b = if begins_as Two b then Some Two else (if begins_as One b then So
 
 -- ---- what stands there
 
-abbrev pub harts_of : List ℕ → ℕ
-harts_of b = number 4 b 8
+abbrev pub log_harts : List ℕ → ℕ
+log_harts b = number 4 b 8
 
 abbrev pub count_of : List ℕ → ℕ
 count_of b = number 8 b 32
@@ -36,7 +36,7 @@ start_of n = if n == 0 then Cold else Warm
 
 abbrev pub settings_with : List ℕ → Start → ℕ → Settings
 settings_with b start instruments = record {
-  harts = harts_of b;
+  harts = log_harts b;
   budget = number 8 b 16;
   bins = number 4 b 12;
   width = number 8 b 24;
@@ -97,7 +97,7 @@ log_fault v b =
     first_fault (fault_where (nat_lt (length b) (head_len v)) (Short (length b))
     ∷ head_fault v b
     ∷ fault_where (nat_lt (length b) (log_len v (count_of b))) (Short (length b))
-    ∷ entries_fault v (harts_of b) b (count_of b) (head_len v)
+    ∷ entries_fault v (log_harts b) b (count_of b) (head_len v)
     ∷ fault_where (nat_lt (log_len v (count_of b)) (length b)) (Trailing (log_len v (count_of b)))
     ∷ [])
 
@@ -117,10 +117,10 @@ unfoldable pub meaning_of : List ℕ → Result (Settings × List Quantum) LogFa
 meaning_of b = meaning_as (version_of b) b
 
 -- why a call was refused; running out of memory is always allowed
-abbrev pub Refuses : LogError → (LogFault → Type 0) → Type 0
-Refuses (error.Fault fault) why = why fault
-Refuses error.NoMemory why = ⊤
+abbrev pub LogRefuses : LogError → (LogFault → Type 0) → Type 0
+LogRefuses (error.Fault fault) why = why fault
+LogRefuses error.NoMemory why = ⊤
 
 -- the result is what bytes mean, unless memory runs out
 abbrev pub Means : Result (Settings × Vec Quantum) LogError → Result (Settings × List Quantum) LogFault → Type 0
-Means result meaning = MatchResult result (λ log. meaning ≡ Ok (log.0, log.1.items)) (λ e. Refuses e (λ fault. meaning ≡ Err fault))
+Means result meaning = MatchResult result (λ log. meaning ≡ Ok (log.0, log.1.items)) (λ e. LogRefuses e (λ fault. meaning ≡ Err fault))

@@ -2,7 +2,7 @@
 
 ghost use Rattle.std.specs.Prelude.{◌≡◌, ◌+◌, ◌≤◌, ◌<◌, length, None, Some, MatchResult};
 ghost use Rattle.quanta_log.specs.Fields.{head_len, entry_len, log_len};
-ghost use Rattle.quanta_log.specs.Meaning.{harts_of, count_of, quantum_at, quanta_at, entry_fault, entries_fault, Refuses};
+ghost use Rattle.quanta_log.specs.Meaning.{log_harts, count_of, quantum_at, quanta_at, entry_fault, entries_fault, LogRefuses};
 
 use crate::fault::{LogError, LogFault};
 use crate::numbers::{byte, doubleword, half, is_within, word};
@@ -101,13 +101,13 @@ fn quantum_at(version: Version, bytes: &[u8], at: usize) -> Quantum
 ///
 /// The first fault of an entry, or out of memory.
 pub fn quanta_of(alloc: Global, version: Version, bytes: &[u8]) -> Result<Vec<Quantum>, LogError>
-    requires harts { 1 ≤ harts_of bytes.now }
+    requires harts { 1 ≤ log_harts bytes.now }
     requires whole { log_len version (count_of bytes.now) ≤ length bytes.now }
     ensures { MatchResult result
-        (λ quanta. (entries_fault version (harts_of bytes.now) bytes.now (count_of bytes.now) (head_len version) ≡ None)
+        (λ quanta. (entries_fault version (log_harts bytes.now) bytes.now (count_of bytes.now) (head_len version) ≡ None)
         × (quanta.items ≡ quanta_at version bytes.now (count_of bytes.now) (head_len version)))
-        (λ e. Refuses e (λ fault.
-        entries_fault version (harts_of bytes.now) bytes.now (count_of bytes.now) (head_len version) ≡ Some fault)) }
+        (λ e. LogRefuses e (λ fault.
+        entries_fault version (log_harts bytes.now) bytes.now (count_of bytes.now) (head_len version) ≡ Some fault)) }
 {
     let harts = word(bytes, 8);
     let count = doubleword(bytes, 32);

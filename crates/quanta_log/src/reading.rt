@@ -2,7 +2,7 @@
 
 ghost use Rattle.std.specs.Prelude.{◌≡◌, ◌+◌, ◌≤◌, ◌<◌, length, map, None, IfOk};
 ghost use Rattle.quanta_log.specs.Fields.{head_len, entry_len, log_len, later_fields};
-ghost use Rattle.quanta_log.specs.Meaning.{begins_as, version_of, harts_of, count_of, start_of, settings_of, field_fault, first_fault, head_fault, log_fault, meaning_of, Means};
+ghost use Rattle.quanta_log.specs.Meaning.{begins_as, version_of, log_harts, count_of, start_of, settings_of, field_fault, first_fault, head_fault, log_fault, meaning_of, Means};
 ghost use Rattle.quanta_log.specs.Spelling.{CanSpell};
 
 use crate::entries::quanta_of;

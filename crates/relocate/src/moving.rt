@@ -8,7 +8,7 @@ ghost use Rattle.rv_word.specs.Words.{word_of};
 ghost use Rattle.tramp_spec.specs.Jumps as jumps;
 ghost use Rattle.tramp_spec.specs.Marks as marks;
 ghost use Rattle.tramp_spec.specs.MovedWords as table;
-ghost use Rattle.relocate.specs.Answers.{Answers};
+ghost use Rattle.relocate.specs.Answers.{IsMoved};
 
 use rv_word::{BranchOp, ImmOp, Instr, decode, encode};
 use tramp_spec::{MarkedWord, Moved, is_signed_word, jump_word, put_number, reaches};
@@ -68,7 +68,7 @@ fn number_words(rd: u32, number: u64) -> [MarkedWord; 2]
 
 /// An auipc: its value is put into the register by two words.
 fn move_auipc(rd: u32, imm: u64, from: u64, to: u64) -> Result<Moved, Unmovable>
-    ensures { Answers result (table.moved_decoded (Some (instr.Auipc rd imm)) 0 from to) }
+    ensures { IsMoved result (table.moved_decoded (Some (instr.Auipc rd imm)) 0 from to) }
 {
     let value = from.wrapping_add(imm);
     if !is_signed_word(value) {
@@ -82,7 +82,7 @@ fn move_auipc(rd: u32, imm: u64, from: u64, to: u64) -> Result<Moved, Unmovable>
 
 /// A jal that keeps no address.
 fn move_jump(offset: u64, from: u64, to: u64) -> Result<Moved, Unmovable>
-    ensures { Answers result (table.moved_decoded (Some (instr.Jal 0 offset)) 0 from to) }
+    ensures { IsMoved result (table.moved_decoded (Some (instr.Jal 0 offset)) 0 from to) }
 {
     let target = from.wrapping_add(offset);
     if !is_target(to, target) {
@@ -94,7 +94,7 @@ fn move_jump(offset: u64, from: u64, to: u64) -> Result<Moved, Unmovable>
 
 /// A jal: the address of the next word is put into the register by two words, where it has one.
 fn move_jal(rd: u32, offset: u64, from: u64, to: u64) -> Result<Moved, Unmovable>
-    ensures { Answers result (table.moved_decoded (Some (instr.Jal rd offset)) 0 from to) }
+    ensures { IsMoved result (table.moved_decoded (Some (instr.Jal rd offset)) 0 from to) }
 {
     if rd == 0 {
         return move_jump(offset, from, to);
@@ -140,7 +140,7 @@ fn move_branch(
     from: u64,
     to: u64,
 ) -> Result<Moved, Unmovable>
-    ensures { Answers result (table.moved_decoded (Some (instr.Branch op rs1 rs2 offset)) 0 from to) }
+    ensures { IsMoved result (table.moved_decoded (Some (instr.Branch op rs1 rs2 offset)) 0 from to) }
 {
     let target = from.wrapping_add(offset);
     if !is_target(behind(to, 8), target) {
@@ -172,7 +172,7 @@ fn move_plain(word: u32, from: u64, to: u64) -> Moved
 /// `Unmovable` where it can't be moved there.
 #[tactic(auto, unfolding(tramp_spec::specs::MovedWords::moved_of))]
 pub fn move_word(word: u32, from: u64, to: u64) -> Result<Moved, Unmovable>
-    ensures { Answers result (table.moved_of word from to) }
+    ensures { IsMoved result (table.moved_of word from to) }
 {
     match decode(word) {
         Some(Instr::Auipc { rd, imm }) => move_auipc(rd, imm, from, to),

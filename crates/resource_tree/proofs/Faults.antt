@@ -2,7 +2,7 @@
 use Rattle.std.proofs.Common.{◌≡◌, ℕ, suc, ◌+◌, ◌<◌, Bool, true, false, List, [], ◌∷◌, ◌++◌, length, take, drop, get_or, Option, Some, None, sym, ap, ◌∙◌, subst, arith, add-one}
 use Rattle.std.proofs.lemmas.List.{take_more, take_all, take-append-drop}
 use Rattle.resource_tree.specs.FocusTexts.{every_axis, IsFocusText, IsFaultAt, GoesOn}
-use Rattle.resource_tree.specs.FormStates.{after, after_all, is_whole}
+use Rattle.resource_tree.specs.FormStates.{form_after, after_all, is_whole}
 use Rattle.resource_tree.specs.declared.form.FormState.{FormState}
 use Rattle.resource_tree.specs.declared.form.Stage.TheVariants.{Start}
 use Rattle.resource_tree.proofs.FormStates.{state, after_none, after_append, Whole, parts_whole}
@@ -25,14 +25,14 @@ stopped text rest h f =
 
 -- the state after one more byte of a text
 pub one_more : (text : List ℕ) (n b : ℕ) (s : FormState) → n < length text → b ≡ get_or text n 0 → after_all (state every_axis Start) (take n text) ≡ Some s
-    → after_all (state every_axis Start) (take (n + 1) text) ≡ after s b
+    → after_all (state every_axis Start) (take (n + 1) text) ≡ form_after s b
 one_more text n b s lt e h =
     ap (after_all (state every_axis Start)) (take_more text n 0 lt)
     ∙ after_append (state every_axis Start) (take n text) (get_or text n 0 ∷ [])
     ∙ ap (λ (t : Option FormState). after_all t (get_or text n 0 ∷ [])) h
-    ∙ ap (after s) (sym e)
+    ∙ ap (form_after s) (sym e)
 
-pub stops_at : (text : List ℕ) (n b : ℕ) (s : FormState) → n < length text → b ≡ get_or text n 0 → after_all (state every_axis Start) (take n text) ≡ Some s → after s b ≡ None → IsFaultAt text n
+pub stops_at : (text : List ℕ) (n b : ℕ) (s : FormState) → n < length text → b ≡ get_or text n 0 → after_all (state every_axis Start) (take n text) ≡ Some s → form_after s b ≡ None → IsFaultAt text n
 stops_at text n b s lt e h stop =
     let f : after_all (state every_axis Start) (take (n + 1) text) ≡ None = one_more text n b s lt e h ∙ stop in
     record {

@@ -5,7 +5,7 @@ use Rattle.pn_types.specs.GoodNames.{is_name_byte, is_good_name}
 use Rattle.pn_types.specs.declared.focus.Axis.{Axis}
 use Rattle.pn_types.specs.declared.focus.Axis.TheVariants.{Code, Machine, SyncObject}
 use Rattle.resource_tree.specs.FocusTexts.{Part, axis_name, depth, has, without, every_axis, is_part, are_parts_of, AreParts, below_text, part_text, more_text, parts_text}
-use Rattle.resource_tree.specs.FormStates.{is_any, after, after_at, after_all, behind_name, is_whole}
+use Rattle.resource_tree.specs.FormStates.{is_any, form_after, after_at, after_all, behind_name, is_whole}
 use Rattle.resource_tree.specs.declared.hierarchy.Axes.{Axes}
 use Rattle.resource_tree.specs.declared.form.FormState.{FormState}
 use Rattle.resource_tree.specs.declared.form.Stage.{Stage}
@@ -21,7 +21,7 @@ after_none (b ∷ bs) = after_none bs
 pub after_append : (s : Option FormState) (a b : List ℕ) → after_all s (a ++ b) ≡ after_all (after_all s a) b
 after_append s [] b = refl
 after_append None (x ∷ a) b = after_append None a b
-after_append (Some s) (x ∷ a) b = after_append (after s x) a b
+after_append (Some s) (x ∷ a) b = after_append (form_after s x) a b
 
 pub both : (a b : Bool) → a && b ≡ true → (a ≡ true) × (b ≡ true)
 both true b h = (refl, h)

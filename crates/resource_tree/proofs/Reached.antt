@@ -9,7 +9,7 @@ use Rattle.pn_types.specs.GoodNames.{is_name_byte, is_good_name}
 use Rattle.pn_types.specs.declared.focus.Axis.{Axis}
 use Rattle.pn_types.specs.declared.focus.Axis.TheVariants.{Code, Machine, SyncObject}
 use Rattle.resource_tree.specs.FocusTexts.{Part, axis_name, depth, has, without, every_axis, are_parts_of, IsFocusText, below_text, more_text, parts_text}
-use Rattle.resource_tree.specs.FormStates.{is_any, after, after_at, after_all, behind_name, in_hierarchy, is_byte, lettered}
+use Rattle.resource_tree.specs.FormStates.{is_any, form_after, after_at, after_all, behind_name, in_hierarchy, is_byte, lettered}
 use Rattle.resource_tree.specs.declared.hierarchy.Axes.{Axes}
 use Rattle.resource_tree.specs.declared.form.FormState.{FormState}
 use Rattle.resource_tree.specs.declared.form.Stage.{Stage}
@@ -260,9 +260,9 @@ along [] s t w r h =
     let e : s ≡ t = cc in
     let f : w ≡ w ++ [] = simp append-nil in
     subst (λ (v : List ℕ). ReachedState t v) f (subst (λ (u : FormState). ReachedState u w) e r)
-along (b ∷ bs) s t w r h = by (after s b) refl (λ u g q. along bs u t (w ++ b ∷ []) (step s.left s.stage b w u r q) g) h
+along (b ∷ bs) s t w r h = by (form_after s b) refl (λ u g q. along bs u t (w ++ b ∷ []) (step s.left s.stage b w u r q) g) h
   where
-    by : (o : Option FormState) → after s b ≡ o → ((u : FormState) → after_all (Some u) bs ≡ Some t → after s b ≡ Some u → ReachedState t ((w ++ b ∷ []) ++ bs)) → after_all o bs ≡ Some t → ReachedState t (w ++ b ∷ bs)
+    by : (o : Option FormState) → form_after s b ≡ o → ((u : FormState) → after_all (Some u) bs ≡ Some t → form_after s b ≡ Some u → ReachedState t ((w ++ b ∷ []) ++ bs)) → after_all o bs ≡ Some t → ReachedState t (w ++ b ∷ bs)
     by None q rest g = let n = after_none bs in cc
     by (Some u) q rest g = subst (λ (v : List ℕ). ReachedState t v) (append_assoc w (b ∷ []) bs) (rest u g q)
 

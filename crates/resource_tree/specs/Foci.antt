@@ -160,9 +160,9 @@ procs_of c (Module m) = procs_of_module c m
 procs_of c (Procedure p) = p ∷ []
 
 -- the first hart that a node of the machine selects, and how many
-abbrev pub harts_of : ℕ → Option ℕ → ℕ × ℕ
-harts_of harts None = (0, harts)
-harts_of harts (Some h) = (h, 1)
+abbrev pub harts_of_node : ℕ → Option ℕ → ℕ × ℕ
+harts_of_node harts None = (0, harts)
+harts_of_node harts (Some h) = (h, 1)
 
 -- the address of the object that a focus selects
 abbrev pub address_of : List ObjectNode → Option ℕ → Option ℕ
@@ -176,7 +176,7 @@ pub record Selection : Type 0 where
 
 abbrev pub part : Resources → Focus → Selection
 part t f = record {
-  harts = range_with_len (harts_of t.harts f.hart).0 (harts_of t.harts f.hart).1;
+  harts = range_with_len (harts_of_node t.harts f.hart).0 (harts_of_node t.harts f.hart).1;
   procs = procs_of t.code f.code;
   object = address_of t.objects f.object;
 }

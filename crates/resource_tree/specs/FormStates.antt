@@ -52,13 +52,13 @@ after_at axes (Name levels len) b =
     else None
 
 -- after one more byte; none where no focus text has it there
-abbrev pub after : FormState → ℕ → Option FormState
-after s b = after_at s.left s.stage b
+abbrev pub form_after : FormState → ℕ → Option FormState
+form_after s b = after_at s.left s.stage b
 
 -- after some bytes
 abbrev pub after_all : Option FormState → List ℕ → Option FormState
 after_all s [] = s
-after_all s (b ∷ bs) = after_all (option_and_then (λ t. after t b) s) bs
+after_all s (b ∷ bs) = after_all (option_and_then (λ t. form_after t b) s) bs
 
 -- a focus text can end here
 abbrev pub is_whole : Stage → Bool

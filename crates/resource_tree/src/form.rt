@@ -3,7 +3,7 @@
 ghost use Rattle.std.specs.Prelude.{◌≡◌, ◌<◌, IsTrue, MatchOption, length, slice_get};
 ghost use Rattle.pn_types.specs.GoodNames.{is_name_byte};
 ghost use Rattle.resource_tree.specs.FocusTexts.{IsFocusText, IsFaultAt};
-ghost use Rattle.resource_tree.specs.FormStates.{after, behind_name, in_hierarchy, is_byte, is_whole};
+ghost use Rattle.resource_tree.specs.FormStates.{form_after, behind_name, in_hierarchy, is_byte, is_whole};
 
 use crate::hierarchy::{Axes, axis_name, depth};
 use pn_types::{Axis, is_good_name};
@@ -86,7 +86,7 @@ fn is_byte(text: &[u8], place: usize, byte: u8) -> bool
 impl FormState {
     /// The state after one more byte. None where no focus text goes on with it.
     fn after(self, byte: u8) -> Option<FormState>
-        ensures { result ≡ after self byte }
+        ensures { result ≡ form_after self byte }
     {
         let left = self.left;
         match self.stage {

@@ -5,7 +5,7 @@ ghost use Rattle.std.specs.List.{AllByRecursion};
 ghost use Rattle.std.specs.Option.{option_and_then};
 ghost use Rattle.resource_tree.specs.Resources.{tree_of};
 ghost use Rattle.resource_tree.specs.Names.{AreNamed, IsNamed};
-ghost use Rattle.resource_tree.specs.Foci.{harts_of, part};
+ghost use Rattle.resource_tree.specs.Foci.{harts_of_node, part};
 
 use crate::code::CodeTree;
 use crate::objects::Objects;
@@ -89,7 +89,7 @@ impl Tree {
 
     /// Returns the first hart that the focus selects, and how many it selects.
     pub fn harts(&self, focus: &Focus) -> (u32, u32)
-        ensures { result ≡ harts_of self.now.harts focus.now.hart }
+        ensures { result ≡ harts_of_node self.now.harts focus.now.hart }
     {
         match focus.hart {
             None => (0, self.harts),

@@ -18,9 +18,9 @@ use Rattle.pn_types.specs.declared.image.Symbol.{Symbol}
 use Rattle.pn_text.specs.Lines.{lines}
 use Rattle.rv_asm.specs.declared.fault.AsmFault.{AsmFault}
 use Rattle.rv_asm.specs.declared.fault.AsmFault.TheVariants.{NoText, TextTooLong, DataTooLong}
-use Rattle.rv_asm.specs.FirstPass.{Declaration, Draft, blank_draft, passed, len_all, text_start, data_start}
+use Rattle.rv_asm.specs.FirstPass.{Declaration, Draft, blank_draft, draft_after_lines, len_all, text_start, data_start}
 use Rattle.rv_asm.specs.SecondPass.{code}
-use Rattle.rv_asm.specs.Assembly.{assembled, closed, closed_by, sized, image_of, segment, data_bytes, symbol_of, symbols_from, symbols_of, belonging, belongs, is_own, ends_after, name_room, names_room}
+use Rattle.rv_asm.specs.Assembly.{assembled, draft_closed, closed_by, sized, image_of, segment, data_bytes, symbol_of, symbols_from, symbols_of, belonging, belongs, is_own, ends_after, name_room, names_room}
 use Rattle.rv_asm.proofs.Lengths.{AreNamed, declaration_room, declarations_room, Passes, data_short, lines_len, passed_leads, lines_shorter, blank_tight, ok_step, ok_is, passes_by}
 use Rattle.rv_asm.proofs.CleanCode.{IsClean, clean_none, clean_whole, code_clean}
 use Rattle.rv_asm.proofs.FormNames.{IsClean as IsCleanName, all_append}
@@ -223,8 +223,8 @@ image_is len d text sound clean some short small few room named =
 pub assembled_is : (text : List ℕ) (image : Image) → assembled text ≡ Ok image → IsAssembled (length text) image
 unfolding assembled
 assembled_is text image e =
-    let first = ok_step (passed 1 blank_draft (lines text)) _ image e in
-    let whole = ok_step (closed first.0) _ image first.1.1 in
+    let first = ok_step (draft_after_lines 1 blank_draft (lines text)) _ image e in
+    let whole = ok_step (draft_closed first.0) _ image first.1.1 in
     let bytes = ok_step (code whole.0.labels whole.0.text_part) _ image whole.1.1 in
     let found = sized_of whole.0 bytes.0 image bytes.1.1 in
     let same : first.0 ≡ whole.0 = closed_is first.0 whole.0 first.0.opened whole.1.0 in

@@ -18,7 +18,7 @@ use Rattle.rv_asm.specs.declared.statement.Statement.{Statement}
 use Rattle.rv_asm.specs.declared.statement.Statement.TheVariants as the
 use Rattle.rv_asm.specs.Numbers.{wrapped}
 use Rattle.rv_asm.specs.Registers.{named}
-use Rattle.rv_asm.specs.Checks.{stands, has_x31}
+use Rattle.rv_asm.specs.Checks.{may_stand, has_x31}
 use Rattle.rv_asm.specs.Layout.{is_short}
 use Rattle.rv_asm.specs.FirstPass.{Placed}
 use Rattle.rv_asm.specs.SecondPass.{word_bytes, instr_bytes, with_number, upper, lower, pair_bytes, number_bytes, reaches, distance, jump_bytes, address_bytes, code_by, code_of, code}
@@ -122,11 +122,11 @@ nothing bytes e = subst IsClean (ok_is [] bytes e) clean_nil
 -- a statement that stands in the text and doesn't name x31
 pub record IsOfText (s : Statement) : Type 0 where
   pub inside : Bool
-  pub stands : stands section.Text inside s ≡ true
+  pub stands : may_stand section.Text inside s ≡ true
   pub clean : has_x31 section.Text s ≡ false
 
-statement_clean : (labels : List (List ℕ × ℕ)) (p : Placed) (s : Statement) (inside : Bool) (bytes : List ℕ) → stands section.Text inside s ≡ true → has_x31 section.Text s ≡ false → code_by labels p s ≡ Ok bytes → IsClean bytes
-unfolding stands has_x31
+statement_clean : (labels : List (List ℕ × ℕ)) (p : Placed) (s : Statement) (inside : Bool) (bytes : List ℕ) → may_stand section.Text inside s ≡ true → has_x31 section.Text s ≡ false → code_by labels p s ≡ Ok bytes → IsClean bytes
+unfolding may_stand has_x31
 statement_clean labels p (the.Value width.Word n) inside bytes h none e =
     subst IsClean (ok_is (word_bytes (wrapped n % 2 ^ 32)) bytes e) (clean_one (wrapped n % 2 ^ 32) (omega arith) none)
 statement_clean labels p (the.Value width.Byte n) inside bytes h none e = absurd (cc)

@@ -4,11 +4,11 @@ use Rattle.rv_asm.specs.declared.fault.AsmFault.{AsmFault}
 use Rattle.rv_asm.specs.declared.fault.AsmError.{AsmError}
 use Rattle.rv_asm.specs.declared.fault.AsmError.TheVariants as error
 use Rattle.rv_asm.specs.FirstPass.{◌>>=◌, Placed}
-use Rattle.rv_asm.specs.Means.{Refuses}
+use Rattle.rv_asm.specs.Means.{AsmRefuses}
 use Rattle.rv_asm.specs.SecondPass.{code, code_of, joined}
 
 -- a refusal says as much as its reason
-pub refuses_more : {why also : AsmFault → Type 0} (e : AsmError) → ((fault : AsmFault) → why fault → also fault) → Refuses e why → Refuses e also
+pub refuses_more : {why also : AsmFault → Type 0} (e : AsmError) → ((fault : AsmFault) → why fault → also fault) → AsmRefuses e why → AsmRefuses e also
 refuses_more (error.Fault fault) more refused = more fault refused
 refuses_more error.NoMemory more refused = tt
 

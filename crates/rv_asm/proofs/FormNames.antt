@@ -8,7 +8,7 @@ use Rattle.std.specs.Option.{option_and_then, option_map}
 use Rattle.rv_asm.specs.declared.number.Number.{Number}
 use Rattle.rv_asm.specs.declared.statement.Statement.{Statement}
 use Rattle.rv_asm.specs.declared.statement.Statement.TheVariants as the
-use Rattle.rv_asm.specs.Bytes.{skip_blanks, behind_word, word_of, is_name, is_name_byte}
+use Rattle.rv_asm.specs.Bytes.{skip_blanks, after_name, word_of, is_name, is_name_byte}
 use Rattle.rv_asm.specs.Operands.{alone, register_name, registers_name, one_name, name_number, one_string}
 use Rattle.rv_asm.specs.Operations.{branch_ops, zero_branch_ops}
 use Rattle.rv_asm.specs.Registers.{named}
@@ -45,7 +45,7 @@ word_clean text = word_all text
 name_clean : (text : List ℕ) (x : List ℕ × List ℕ) → name_at text ≡ Some x → IsClean x.0
 unfolding name_at
 name_clean text x e =
-    let same = chosen (is_name (word_of (skip_blanks text))) (word_of (skip_blanks text), behind_word (skip_blanks text)) x e in
+    let same = chosen (is_name (word_of (skip_blanks text))) (word_of (skip_blanks text), after_name (skip_blanks text)) x e in
     subst (λ (p : List ℕ × List ℕ). IsClean p.0) same (word_clean (skip_blanks text))
 
 one_name_clean : (text name : List ℕ) → one_name text ≡ Some name → IsClean name

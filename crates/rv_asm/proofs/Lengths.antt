@@ -17,10 +17,10 @@ use Rattle.rv_asm.specs.declared.statement.Section.{Section}
 use Rattle.rv_asm.specs.declared.statement.Statement.{Statement}
 use Rattle.rv_asm.specs.declared.statement.Statement.TheVariants as the
 use Rattle.rv_asm.specs.Numbers.{wrapped}
-use Rattle.rv_asm.specs.Checks.{in_text, stands, numbers_fit, has_x31}
+use Rattle.rv_asm.specs.Checks.{in_text, may_stand, numbers_fit, has_x31}
 use Rattle.rv_asm.specs.Layout.{width_len, value_bytes, padding, len_of, data_of}
-use Rattle.rv_asm.specs.Parsing.{Line, line_of}
-use Rattle.rv_asm.specs.FirstPass.{◌>>=◌, Placed, Declaration, Draft, blank_draft, len_all, text_end, data_end, here, judged_form, judged, define_all, define_own, good_module, placed_after, declaring, after, stepped, passed}
+use Rattle.rv_asm.specs.Parsing.{LineParts, line_of}
+use Rattle.rv_asm.specs.FirstPass.{◌>>=◌, Placed, Declaration, Draft, blank_draft, len_all, text_end, data_end, here, judged_form, judged_line, define_all, define_own, good_module, placed_after, declaring, draft_after_statement, stepped, draft_after_lines}
 use Rattle.pn_types.specs.GoodNames.{is_good_name, program_module}
 use Rattle.rv_asm.specs.Assembly.{data_bytes}
 use Rattle.rv_asm.proofs.FormNames.{IsClean, all_append}
@@ -101,8 +101,8 @@ good_by false name e = omega arith
 good_short : (name : List ℕ) → length (good_module name) ≤ 200
 good_short name = good_by (is_good_name name) name refl
 
-after_leads : (n len : ℕ) (d : Draft) (s : Statement) (text : List ℕ) → Fits s text len → IsTight d → Leads len d (after n d s text)
-unfolding after
+after_leads : (n len : ℕ) (d : Draft) (s : Statement) (text : List ℕ) → Fits s text len → IsTight d → Leads len d (draft_after_statement n d s text)
+unfolding draft_after_statement
 after_leads n len d the.Empty text fits tight = stays len d d refl tight
 after_leads n len d the.Text text fits tight = stays len d _ refl (record { short = tight.short; named = tight.named })
 after_leads n len d the.Data text fits tight = stays len d _ refl (record { short = tight.short; named = tight.named })
@@ -138,21 +138,21 @@ not_false true h = refl
 not_false false h = absurd (cc)
 
 -- a line that has a form, stands where it is and doesn't name x31
-pub record IsJudged (s : Section) (inside : Bool) (bytes : List ℕ) (line : Line) : Type 0 where
+pub record IsJudged (s : Section) (inside : Bool) (bytes : List ℕ) (line : LineParts) : Type 0 where
   pub form : line_of bytes ≡ Some line
-  pub stands : stands s inside line.statement ≡ true
+  pub stands : may_stand s inside line.statement ≡ true
   pub clean : has_x31 s line.statement ≡ false
 
-pub line_judged : (n : ℕ) (s : Section) (inside : Bool) (bytes : List ℕ) (found : Line) → judged n s inside bytes ≡ Ok found → IsJudged s inside bytes found
-unfolding judged
+pub line_judged : (n : ℕ) (s : Section) (inside : Bool) (bytes : List ℕ) (found : LineParts) → judged_line n s inside bytes ≡ Ok found → IsJudged s inside bytes found
+unfolding judged_line
 line_judged n s inside bytes found e = by (line_of bytes) refl e
   where
-    by : (o : Option Line) → line_of bytes ≡ o → judged_form n s inside o ≡ Ok found → IsJudged s inside bytes found
+    by : (o : Option LineParts) → line_of bytes ≡ o → judged_form n s inside o ≡ Ok found → IsJudged s inside bytes found
     by None is h = absurd (cc)
     by (Some line) is h =
-        let third : Result Line AsmFault = cond (has_x31 s line.statement) (Err (UsesScratch n)) (Ok line) in
-        let second : Result Line AsmFault = cond (not (numbers_fit line.statement)) (Err (BadNumber n)) third in
-        let a = passes_by (not (stands s inside line.statement)) (BadLine n) second found h in
+        let third : Result LineParts AsmFault = cond (has_x31 s line.statement) (Err (UsesScratch n)) (Ok line) in
+        let second : Result LineParts AsmFault = cond (not (numbers_fit line.statement)) (Err (BadNumber n)) third in
+        let a = passes_by (not (may_stand s inside line.statement)) (BadLine n) second found h in
         let b = passes_by (not (numbers_fit line.statement)) (BadNumber n) third found a.1 in
         let c = passes_by (has_x31 s line.statement) (UsesScratch n) (Ok line) found b.1 in
         subst (IsJudged s inside bytes) (ok_is line found c.1) (record { form = is; stands = not_false _ a.0; clean = c.0 })
@@ -160,10 +160,10 @@ line_judged n s inside bytes found e = by (line_of bytes) refl e
 step_leads : (n : ℕ) (d e : Draft) (bytes : List ℕ) → stepped n d bytes ≡ Ok e → IsTight d → Leads (length bytes) d e
 unfolding stepped
 step_leads n d e bytes h tight =
-    let line = ok_step (judged n d.section (is_some d.opened) bytes) _ e h in
+    let line = ok_step (judged_line n d.section (is_some d.opened) bytes) _ e h in
     let labels = ok_step (define_all n (here d) line.0.labels d.labels) _ e line.1.1 in
     let all = ok_step (define_own n (here d) line.0.statement line.0.text labels.0) _ e labels.1.1 in
-    let is = ok_is (after n (record d { labels = all.0 }) line.0.statement line.0.text) e all.1.1 in
+    let is = ok_is (draft_after_statement n (record d { labels = all.0 }) line.0.statement line.0.text) e all.1.1 in
     let fits = line_fits bytes line.0 (line_judged n d.section (is_some d.opened) bytes line.0 line.1.0).form in
     let leads = after_leads n (length bytes) (record d { labels = all.0 }) line.0.statement line.0.text fits (record { short = tight.short; named = tight.named }) in
     subst (λ (e : Draft). Leads (length bytes) d e) is (record { count = leads.count; room = leads.room; tight = leads.tight })
@@ -179,10 +179,10 @@ pub record Passes (len : ℕ) (d e : Draft) : Type 0 where
   pub room : declarations_room e ≤ declarations_room d + 127 * len
   pub tight : IsTight e
 
-pub passed_leads : (n : ℕ) (d e : Draft) (ls : List (List ℕ)) → passed n d ls ≡ Ok e → IsTight d → Passes (lines_len ls) d e
+pub passed_leads : (n : ℕ) (d e : Draft) (ls : List (List ℕ)) → draft_after_lines n d ls ≡ Ok e → IsTight d → Passes (lines_len ls) d e
 passed_leads n d e [] h tight = subst (λ (e : Draft). Passes 0 d e) (ok_is d e h) (record { count = omega arith; room = omega arith; tight = tight })
 passed_leads n d e (line ∷ ls) h tight =
-    let more = ok_step (stepped n d line) (λ (more : Draft). passed (n + 1) more ls) e h in
+    let more = ok_step (stepped n d line) (λ (more : Draft). draft_after_lines (n + 1) more ls) e h in
     let first = step_leads n d more.0 line more.1.0 tight in
     let rest = passed_leads (n + 1) more.0 e ls more.1.1 first.tight in
     let sum = sum_by-cons (λ (l : List ℕ). length l + 1) line ls in

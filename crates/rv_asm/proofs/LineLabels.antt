@@ -1,7 +1,7 @@
 -- The labels of a line, one by one.
 use Rattle.std.proofs.Common.{◌≡◌, ℕ, zero, suc, ◌<◌, ◌≤◌, ◌==◌, cond, Bool, true, false, Option, Some, None, List, [], ◌∷◌, ◌++◌, length, map, refl, ap, sym, ◌∙◌, arith, append-nil}
 use Rattle.std.specs.Option.{option_and_then}
-use Rattle.rv_asm.specs.Bytes.{skip_blanks, behind_word, word_of, is_name}
+use Rattle.rv_asm.specs.Bytes.{skip_blanks, after_name, word_of, is_name}
 use Rattle.rv_asm.specs.Tokens.{after_sign}
 use Rattle.rv_asm.proofs.ShorterOperands.{skip_shorter, behind_shorter}
 use Rattle.rv_asm.specs.Parsing.{label_at, labels_in, labels_of, more_labels}
@@ -26,7 +26,7 @@ behind_label named (byte ∷ bytes) word found e =
 pub label_shorter : (text : List ℕ) (found : List ℕ × List ℕ) → label_at text ≡ Some found → length found.1 < length text
 unfolding label_at
 label_shorter text found e =
-    let h = behind_label (is_name (word_of text)) (behind_word text) (word_of text) found e in
+    let h = behind_label (is_name (word_of text)) (after_name text) (word_of text) found e in
     let g = behind_shorter text in
     omega arith
 

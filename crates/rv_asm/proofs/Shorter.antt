@@ -4,9 +4,9 @@ use Rattle.std.proofs.lemmas.Bool.{eqb-false}
 use Rattle.std.proofs.lemmas.List.{length-take}
 use Rattle.rv_asm.specs.declared.statement.Statement.{Statement}
 use Rattle.rv_asm.specs.declared.statement.Statement.TheVariants as the
-use Rattle.rv_asm.specs.Bytes.{behind_word, word_of}
+use Rattle.rv_asm.specs.Bytes.{after_name, word_of}
 use Rattle.rv_asm.specs.Statements.{Found, operation}
-use Rattle.rv_asm.specs.Parsing.{label_at, more_labels, labels_in, labels_of, is_parted, statement_at, body_of, code_len, Line, line_of}
+use Rattle.rv_asm.specs.Parsing.{label_at, more_labels, labels_in, labels_of, is_parted, statement_at, body_of, code_len, LineParts, line_of}
 use Rattle.rv_asm.specs.declared.line.Quoting.TheVariants.{Outside}
 use Rattle.rv_asm.proofs.LineLabels.{label_shorter}
 use Rattle.rv_asm.proofs.FormNames.{IsNamed, IsRead, operation_read}
@@ -19,17 +19,17 @@ pub record Fits (s : Statement) (name : List ℕ) (len : ℕ) : Type 0 where
   pub some : (s ≡ the.Empty) ⊎ (1 ≤ len)
   pub named : IsNamed s name
 
-worded_by : (parted : Bool) (text : List ℕ) (s : Found) → cond parted (operation (word_of text) (behind_word text)) None ≡ Some s → IsRead (behind_word text) s
-worded_by true text s e = operation_read (word_of text) (behind_word text) s e
+worded_by : (parted : Bool) (text : List ℕ) (s : Found) → cond parted (operation (word_of text) (after_name text)) None ≡ Some s → IsRead (after_name text) s
+worded_by true text s e = operation_read (word_of text) (after_name text) s e
 worded_by false text s e = absurd (cc)
 
-statement_by : (empty : Bool) (text : List ℕ) (s : Found) → (length text == 0) ≡ empty → cond empty (Some (the.Empty, [])) (cond (is_parted (behind_word text)) (operation (word_of text) (behind_word text)) None) ≡ Some s → Fits s.0 s.1 (length text)
+statement_by : (empty : Bool) (text : List ℕ) (s : Found) → (length text == 0) ≡ empty → cond empty (Some (the.Empty, [])) (cond (is_parted (after_name text)) (operation (word_of text) (after_name text)) None) ≡ Some s → Fits s.0 s.1 (length text)
 statement_by true text s len e =
     let is : (the.Empty, []) ≡ s = some_is (the.Empty, []) s e in
     subst (λ (s : Found). Fits s.0 s.1 (length text)) is (record { within = omega arith; some = inl refl; named = tt })
 statement_by false text s len e =
     let some = eqb-false (length text) 0 len in
-    let read = worded_by (is_parted (behind_word text)) text s e in
+    let read = worded_by (is_parted (after_name text)) text s e in
     let short = read.short in
     let shorter = behind_shorter text in
     record { within = omega arith; some = inr (omega arith); named = read.named }
@@ -68,7 +68,7 @@ more_room s name few many h fits = record { within = let w = fits.within in omeg
     by (inr l) = inr (omega arith)
 
 -- the name or string of a line's statement fits the line
-pub line_fits : (bytes : List ℕ) (line : Line) → line_of bytes ≡ Some line → Fits line.statement line.text (length bytes)
+pub line_fits : (bytes : List ℕ) (line : LineParts) → line_of bytes ≡ Some line → Fits line.statement line.text (length bytes)
 unfolding line_of
 line_fits bytes line e =
     let rest = (labels_of (body_of bytes)).1 in
@@ -76,5 +76,5 @@ line_fits bytes line e =
     let line-is : record { labels = (labels_of (body_of bytes)).0; statement = found.0.0; text = found.0.1 } ≡ line = some_is _ line found.1.1 in
     let h = body_shorter bytes in
     let g = rest_shorter (body_of bytes) in
-    subst (λ (l : Line). Fits l.statement l.text (length bytes)) line-is
+    subst (λ (l : LineParts). Fits l.statement l.text (length bytes)) line-is
     (more_room found.0.0 found.0.1 (length rest) (length bytes) (omega arith) (statement_fits rest found.0 found.1.0))

@@ -5,7 +5,7 @@ use Rattle.std.specs.Option.{option_and_then}
 use Rattle.std.specs.List.{prefix_len}
 use Rattle.rv_asm.specs.declared.number.Number.{Number}
 use Rattle.rv_asm.specs.Registers.{register_of}
-use Rattle.rv_asm.specs.Bytes.{skip_blanks, behind_word, word_of, is_name, is_blank, is_name_byte}
+use Rattle.rv_asm.specs.Bytes.{skip_blanks, after_name, word_of, is_name, is_blank, is_name_byte}
 use Rattle.rv_asm.specs.Tokens.{ends, after_sign, sign_at, register_at, name_at, number_at, string_len, string_at}
 use Rattle.rv_asm.specs.Operands.{alone, and_register_at, and_last_name, register_name, registers_name, one_name, name_number, one_string}
 
@@ -31,8 +31,8 @@ pub skip_shorter : (text : List ℕ) → length (skip_blanks text) ≤ length te
 unfolding skip_blanks
 skip_shorter text = let e = length-drop (prefix_len is_blank text) text in omega arith
 
-pub behind_shorter : (text : List ℕ) → length (behind_word text) ≤ length text
-unfolding behind_word
+pub behind_shorter : (text : List ℕ) → length (after_name text) ≤ length text
+unfolding after_name
 behind_shorter text = let e = length-drop (prefix_len is_name_byte text) text in omega arith
 
 word_shorter : (text : List ℕ) → length (word_of text) ≤ length text
@@ -53,8 +53,8 @@ sign_shorter sign text rest e =
 register_shorter : (text : List ℕ) (x : ℕ × List ℕ) → register_at text ≡ Some x → length x.1 ≤ length text
 unfolding register_at
 register_shorter text x e =
-    let found = step_of (register_of (word_of (skip_blanks text))) (λ (number : ℕ). Some (number, behind_word (skip_blanks text))) x e in
-    let same : length (behind_word (skip_blanks text)) ≡ length x.1 = ap (λ (p : ℕ × List ℕ). length p.1) (some_is (found.0, behind_word (skip_blanks text)) x found.1.1) in
+    let found = step_of (register_of (word_of (skip_blanks text))) (λ (number : ℕ). Some (number, after_name (skip_blanks text))) x e in
+    let same : length (after_name (skip_blanks text)) ≡ length x.1 = ap (λ (p : ℕ × List ℕ). length p.1) (some_is (found.0, after_name (skip_blanks text)) x found.1.1) in
     let h = behind_shorter (skip_blanks text) in
     let g = skip_shorter text in
     omega arith
@@ -62,9 +62,9 @@ register_shorter text x e =
 name_shorter : (text : List ℕ) (x : List ℕ × List ℕ) → name_at text ≡ Some x → (length x.0 ≤ length text) × (length x.1 ≤ length text)
 unfolding name_at
 name_shorter text x e =
-    let same = chosen (is_name (word_of (skip_blanks text))) (word_of (skip_blanks text), behind_word (skip_blanks text)) x e in
+    let same = chosen (is_name (word_of (skip_blanks text))) (word_of (skip_blanks text), after_name (skip_blanks text)) x e in
     let first : length (word_of (skip_blanks text)) ≡ length x.0 = ap (λ (p : List ℕ × List ℕ). length p.0) same in
-    let second : length (behind_word (skip_blanks text)) ≡ length x.1 = ap (λ (p : List ℕ × List ℕ). length p.1) same in
+    let second : length (after_name (skip_blanks text)) ≡ length x.1 = ap (λ (p : List ℕ × List ℕ). length p.1) same in
     let w = word_shorter (skip_blanks text) in
     let h = behind_shorter (skip_blanks text) in
     let g = skip_shorter text in

@@ -12,9 +12,9 @@ use Rattle.rv_asm.specs.declared.statement.ValueWidth.TheVariants as width
 use Rattle.rv_asm.specs.declared.statement.Statement.{Statement}
 use Rattle.rv_asm.specs.declared.statement.Statement.TheVariants as the
 use Rattle.rv_asm.specs.Registers.{named}
-use Rattle.rv_asm.specs.Checks.{in_text, stands, has_x31}
+use Rattle.rv_asm.specs.Checks.{in_text, may_stand, has_x31}
 use Rattle.rv_asm.specs.Layout.{is_short, len_of}
-use Rattle.rv_asm.specs.FirstPass.{Placed, Declaration, Draft, blank_draft, good_module, declaring, text_start, data_start, len_all, text_end, data_end, here, judged, define, define_all, define_own, placed_after, after, stepped, passed}
+use Rattle.rv_asm.specs.FirstPass.{Placed, Declaration, Draft, blank_draft, good_module, declaring, text_start, data_start, len_all, text_end, data_end, here, judged_line, define, define_all, define_own, placed_after, draft_after_statement, stepped, draft_after_lines}
 use Rattle.rv_asm.specs.Assembly.{entry_at}
 use Rattle.pn_types.specs.GoodNames.{is_good_name, program_module}
 use Rattle.rv_asm.specs.declared.draft.DeclarationKind.{DeclarationKind}
@@ -46,8 +46,8 @@ number_whole true = refl
 number_whole false = refl
 
 -- what stands in the text has whole words
-len_whole : (at : ℕ) (s : Statement) (text : List ℕ) (inside : Bool) → stands section.Text inside s ≡ true → len_of at s text % 4 ≡ 0
-unfolding stands len_of
+len_whole : (at : ℕ) (s : Statement) (text : List ℕ) (inside : Bool) → may_stand section.Text inside s ≡ true → len_of at s text % 4 ≡ 0
+unfolding may_stand len_of
 len_whole at (the.Value width.Word n) text inside h = refl
 len_whole at (the.Value width.Byte n) text inside h = absurd (cc)
 len_whole at (the.Value width.Half n) text inside h = absurd (cc)
@@ -111,7 +111,7 @@ entry_whole d name is = entry_of (named name d.labels) (λ at e. named_all IsLab
 
 -- ---- a line
 
-placed_by : (s : Section) (n : ℕ) (d : Draft) (statement : Statement) (text : List ℕ) (inside : Bool) → d.section ≡ s → stands s inside statement ≡ true → has_x31 s statement ≡ false → IsSound d → IsSound (placed_after n d statement text)
+placed_by : (s : Section) (n : ℕ) (d : Draft) (statement : Statement) (text : List ℕ) (inside : Bool) → d.section ≡ s → may_stand s inside statement ≡ true → has_x31 s statement ≡ false → IsSound d → IsSound (placed_after n d statement text)
 placed_by section.Text n d statement text inside e h none is =
     let yes : in_text d.section ≡ true = ap in_text e in
     let one : IsOfText statement = record { inside = inside; stands = h; clean = none } in
@@ -143,8 +143,8 @@ good_by false name e = refl
 good_name : (name : List ℕ) → is_good_name (good_module name) ≡ true
 good_name name = good_by (is_good_name name) name refl
 
-after_sound : (n : ℕ) (d : Draft) (s : Statement) (text : List ℕ) (inside : Bool) → stands d.section inside s ≡ true → has_x31 d.section s ≡ false → IsSound d → IsSound (after n d s text)
-unfolding after
+after_sound : (n : ℕ) (d : Draft) (s : Statement) (text : List ℕ) (inside : Bool) → may_stand d.section inside s ≡ true → has_x31 d.section s ≡ false → IsSound d → IsSound (draft_after_statement n d s text)
+unfolding draft_after_statement
 after_sound n d the.Empty text inside h none is = is
 after_sound n d the.Text text inside h none is = same_parts d _ refl refl is.source is.declarations is
 after_sound n d the.Data text inside h none is = same_parts d _ refl refl is.source is.declarations is
@@ -157,20 +157,20 @@ after_sound n d other text inside h none is = placed_by d.section n d other text
 step_sound : (n : ℕ) (d e : Draft) (bytes : List ℕ) → stepped n d bytes ≡ Ok e → IsSound d → IsSound e
 unfolding stepped
 step_sound n d e bytes h is =
-    let line = ok_step (judged n d.section (is_some d.opened) bytes) _ e h in
+    let line = ok_step (judged_line n d.section (is_some d.opened) bytes) _ e h in
     let labels = ok_step (define_all n (here d) line.0.labels d.labels) _ e line.1.1 in
     let all = ok_step (define_own n (here d) line.0.statement line.0.text labels.0) _ e labels.1.1 in
     let at = here_label d is in
     let more = own_defined n (here d) line.0.statement line.0.text labels.0 all.0 at (all_defined n (here d) line.0.labels d.labels labels.0 at is.labels labels.1.0) all.1.0 in
     let passes = line_judged n d.section (is_some d.opened) bytes line.0 line.1.0 in
-    subst IsSound (ok_is (after n (record d { labels = all.0 }) line.0.statement line.0.text) e all.1.1)
+    subst IsSound (ok_is (draft_after_statement n (record d { labels = all.0 }) line.0.statement line.0.text) e all.1.1)
     (after_sound n (record d { labels = all.0 }) line.0.statement line.0.text (is_some d.opened) passes.stands passes.clean (record { labels = more; code = is.code; source = is.source; declarations = is.declarations }))
 
 -- all lines
-pub passed_sound : (n : ℕ) (d e : Draft) (ls : List (List ℕ)) → passed n d ls ≡ Ok e → IsSound d → IsSound e
+pub passed_sound : (n : ℕ) (d e : Draft) (ls : List (List ℕ)) → draft_after_lines n d ls ≡ Ok e → IsSound d → IsSound e
 passed_sound n d e [] h is = subst IsSound (ok_is d e h) is
 passed_sound n d e (line ∷ ls) h is =
-    let more = ok_step (stepped n d line) (λ (more : Draft). passed (n + 1) more ls) e h in
+    let more = ok_step (stepped n d line) (λ (more : Draft). draft_after_lines (n + 1) more ls) e h in
     passed_sound (n + 1) more.0 e ls more.1.1 (step_sound n d more.0 line more.1.0 is)
 
 pub blank_sound : IsSound blank_draft

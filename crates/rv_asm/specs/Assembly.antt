@@ -15,7 +15,7 @@ use Rattle.rv_asm.specs.declared.draft.DeclarationKind.{DeclarationKind}
 use Rattle.rv_asm.specs.declared.draft.DeclarationKind.TheVariants as kind
 use Rattle.rv_asm.specs.Registers.{named}
 use Rattle.rv_asm.specs.Layout.{data_of}
-use Rattle.rv_asm.specs.FirstPass.{◌>>=◌, Placed, Declaration, Draft, blank_draft, passed, len_all, text_start, data_start}
+use Rattle.rv_asm.specs.FirstPass.{◌>>=◌, Placed, Declaration, Draft, blank_draft, draft_after_lines, len_all, text_start, data_start}
 use Rattle.rv_asm.specs.SecondPass.{code}
 
 -- ---- symbols
@@ -107,8 +107,8 @@ closed_by d None = Ok d
 closed_by d (Some line) = Err (BadLine line)
 
 -- no procedure is open
-abbrev pub closed : Draft → Result Draft AsmFault
-closed d = closed_by d d.opened
+abbrev pub draft_closed : Draft → Result Draft AsmFault
+draft_closed d = closed_by d d.opened
 
 -- the text is there, and neither it nor the data, of at most 16,777,216 bytes, is too long
 unfoldable pub sized : Draft → List ℕ → Result Image AsmFault
@@ -121,12 +121,12 @@ sized d text =
 -- the program of what the lines make
 abbrev pub completed : Draft → Result Image AsmFault
 completed d = do
-  whole ← closed d
+  whole ← draft_closed d
   bytes ← code whole.labels whole.text_part
   sized whole bytes
 
 -- the program of a text, or the first fault
 unfoldable pub assembled : List ℕ → Result Image AsmFault
 assembled text = do
-  d ← passed 1 blank_draft (lines text)
+  d ← draft_after_lines 1 blank_draft (lines text)
   completed d

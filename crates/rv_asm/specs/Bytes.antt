@@ -20,8 +20,8 @@ skip_blanks text = drop (prefix_len is_blank text) text
 unfoldable pub word_of : List ℕ → List ℕ
 word_of text = take (prefix_len is_name_byte text) text
 
-unfoldable pub behind_word : List ℕ → List ℕ
-behind_word text = drop (prefix_len is_name_byte text) text
+unfoldable pub after_name : List ℕ → List ℕ
+after_name text = drop (prefix_len is_name_byte text) text
 
 -- a word that is a name: it doesn't begin with a digit
 abbrev pub is_name : List ℕ → Bool

@@ -25,19 +25,19 @@ value_stands width.Half s = not (in_text s)
 value_stands width.Doubleword s = not (in_text s)
 
 -- whether the statement stands in the section, a procedure being open or not
-unfoldable pub stands : Section → Bool → Statement → Bool
-stands s inside the.Empty = true
-stands s inside the.Text = true
-stands s inside the.Data = true
-stands s inside the.Procedure = in_text s && not inside
-stands s inside the.End = in_text s && inside
-stands s inside (the.Object n) = not (in_text s)
-stands s inside the.Module = true
-stands s inside (the.Value w n) = value_stands w s
-stands s inside (the.Zeros n) = not (in_text s)
-stands s inside (the.Align n) = not (in_text s)
-stands s inside the.Ascii = not (in_text s)
-stands s inside instruction = in_text s
+unfoldable pub may_stand : Section → Bool → Statement → Bool
+may_stand s inside the.Empty = true
+may_stand s inside the.Text = true
+may_stand s inside the.Data = true
+may_stand s inside the.Procedure = in_text s && not inside
+may_stand s inside the.End = in_text s && inside
+may_stand s inside (the.Object n) = not (in_text s)
+may_stand s inside the.Module = true
+may_stand s inside (the.Value w n) = value_stands w s
+may_stand s inside (the.Zeros n) = not (in_text s)
+may_stand s inside (the.Align n) = not (in_text s)
+may_stand s inside the.Ascii = not (in_text s)
+may_stand s inside instruction = in_text s
 
 -- the number of b bits, with or without a sign
 abbrev pub value_fits : ValueWidth → Number → Bool

@@ -11,8 +11,8 @@ use Rattle.rv_asm.specs.declared.statement.Section.TheVariants as section
 use Rattle.rv_asm.specs.declared.statement.Statement.{Statement}
 use Rattle.rv_asm.specs.declared.statement.Statement.TheVariants as the
 use Rattle.rv_asm.specs.Registers.{named}
-use Rattle.rv_asm.specs.Parsing.{Line, line_of}
-use Rattle.rv_asm.specs.Checks.{in_text, stands, numbers_fit, has_x31}
+use Rattle.rv_asm.specs.Parsing.{LineParts, line_of}
+use Rattle.rv_asm.specs.Checks.{in_text, may_stand, numbers_fit, has_x31}
 use Rattle.rv_asm.specs.Layout.{len_of}
 
 infixl 10 ◌>>=◌
@@ -84,20 +84,20 @@ here d = if in_text d.section then text_end d else data_end d
 
 -- ---- faults of one line, in their order
 
-abbrev pub faultless : ℕ → Section → Bool → Line → Result Line AsmFault
+abbrev pub faultless : ℕ → Section → Bool → LineParts → Result LineParts AsmFault
 faultless n s inside line =
-    if not (stands s inside line.statement) then Err (BadLine n)
+    if not (may_stand s inside line.statement) then Err (BadLine n)
     else if not (numbers_fit line.statement) then Err (BadNumber n)
     else if has_x31 s line.statement then Err (UsesScratch n)
     else Ok line
 
-abbrev pub judged_form : ℕ → Section → Bool → Option Line → Result Line AsmFault
+abbrev pub judged_form : ℕ → Section → Bool → Option LineParts → Result LineParts AsmFault
 judged_form n s inside None = Err (BadLine n)
 judged_form n s inside (Some line) = faultless n s inside line
 
 -- the line with this number, if it has a form, stands there, its numbers fit and it doesn't name x31
-unfoldable pub judged : ℕ → Section → Bool → List ℕ → Result Line AsmFault
-judged n s inside bytes = judged_form n s inside (line_of bytes)
+unfoldable pub judged_line : ℕ → Section → Bool → List ℕ → Result LineParts AsmFault
+judged_line n s inside bytes = judged_form n s inside (line_of bytes)
 
 -- a name that is new
 abbrev pub define : ℕ → ℕ → List ℕ → List (List ℕ × ℕ) → Result (List (List ℕ × ℕ)) AsmFault
@@ -135,30 +135,30 @@ declaring d name what at = record d {
 }
 
 -- the open procedure ends
-abbrev pub ended : Draft → Draft
-ended d = record d { opened = None; ends = d.ends ++ (text_end d ∷ []) }
+abbrev pub draft_ended : Draft → Draft
+draft_ended d = record d { opened = None; ends = d.ends ++ (text_end d ∷ []) }
 
-unfoldable pub after : ℕ → Draft → Statement → List ℕ → Draft
-after n d the.Empty text = d
-after n d the.Text text = record d { section = section.Text }
-after n d the.Data text = record d { section = section.Data }
-after n d the.Procedure name = record (declaring d name kind.Procedure (text_end d)) { opened = Some n }
-after n d the.End text = ended d
-after n d (the.Object size) name = declaring d name (kind.Object size.size) (data_end d)
-after n d the.Module name = record d { «module» = good_module name }
-after n d other text = placed_after n d other text
+unfoldable pub draft_after_statement : ℕ → Draft → Statement → List ℕ → Draft
+draft_after_statement n d the.Empty text = d
+draft_after_statement n d the.Text text = record d { section = section.Text }
+draft_after_statement n d the.Data text = record d { section = section.Data }
+draft_after_statement n d the.Procedure name = record (declaring d name kind.Procedure (text_end d)) { opened = Some n }
+draft_after_statement n d the.End text = draft_ended d
+draft_after_statement n d (the.Object size) name = declaring d name (kind.Object size.size) (data_end d)
+draft_after_statement n d the.Module name = record d { «module» = good_module name }
+draft_after_statement n d other text = placed_after n d other text
 
 -- the line with this number
 unfoldable pub stepped : ℕ → Draft → List ℕ → Result Draft AsmFault
 stepped n d bytes = do
-  line ← judged n d.section (is_some d.opened) bytes
+  line ← judged_line n d.section (is_some d.opened) bytes
   labels ← define_all n (here d) line.labels d.labels
   all ← define_own n (here d) line.statement line.text labels
-  Ok (after n (record d { labels = all }) line.statement line.text)
+  Ok (draft_after_statement n (record d { labels = all }) line.statement line.text)
 
 -- the lines from the one with this number on
-abbrev pub passed : ℕ → Draft → List (List ℕ) → Result Draft AsmFault
-passed n d [] = Ok d
-passed n d (line ∷ lines) = do
+abbrev pub draft_after_lines : ℕ → Draft → List (List ℕ) → Result Draft AsmFault
+draft_after_lines n d [] = Ok d
+draft_after_lines n d (line ∷ lines) = do
   more ← stepped n d line
-  passed (n + 1) more lines
+  draft_after_lines (n + 1) more lines

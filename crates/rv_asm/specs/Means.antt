@@ -6,10 +6,10 @@ use Rattle.rv_asm.specs.declared.fault.AsmFault.{AsmFault}
 use Rattle.pn_types.specs.declared.image.Image.{Image}
 
 -- why a call was refused; running out of memory is always allowed
-abbrev pub Refuses : AsmError → (AsmFault → Type 0) → Type 0
-Refuses (error.Fault fault) why = why fault
-Refuses error.NoMemory why = ⊤
+abbrev pub AsmRefuses : AsmError → (AsmFault → Type 0) → Type 0
+AsmRefuses (error.Fault fault) why = why fault
+AsmRefuses error.NoMemory why = ⊤
 
 -- the result is what a text stands for, unless memory runs out
 abbrev pub Means : Result Image AsmError → Result Image AsmFault → Type 0
-Means result meaning = MatchResult result (λ image. meaning ≡ Ok image) (λ e. Refuses e (λ fault. meaning ≡ Err fault))
+Means result meaning = MatchResult result (λ image. meaning ≡ Ok image) (λ e. AsmRefuses e (λ fault. meaning ≡ Err fault))

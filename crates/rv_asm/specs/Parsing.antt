@@ -1,6 +1,6 @@
 -- What a line says.
 use Rattle.std.specs.Prelude.{ℕ, zero, suc, ◌+◌, ◌==◌, if◌then◌else◌, Bool, true, false, Option, Some, None, List, [], ◌∷◌, take, length}
-use Rattle.rv_asm.specs.Bytes.{is_blank, is_name, skip_blanks, word_of, behind_word}
+use Rattle.rv_asm.specs.Bytes.{is_blank, is_name, skip_blanks, word_of, after_name}
 use Rattle.rv_asm.specs.Tokens.{◌>>=◌, after_sign}
 use Rattle.rv_asm.specs.Statements.{operation}
 use Rattle.rv_asm.specs.declared.line.Quoting.{Quoting}
@@ -32,7 +32,7 @@ code_len quoting (byte ∷ bytes) = if starts_comment quoting byte then 0 else c
 -- a name and a colon directly after it, and what stands after them and blanks
 unfoldable pub label_at : List ℕ → Option (List ℕ × List ℕ)
 label_at text = do
-  rest ← after_sign 58 (behind_word text)
+  rest ← after_sign 58 (after_name text)
   if is_name (word_of text) then Some (word_of text, skip_blanks rest) else None
 
 abbrev pub more_labels : (List ℕ → List (List ℕ) × List ℕ) → List ℕ → Option (List ℕ × List ℕ) → List (List ℕ) × List ℕ
@@ -59,11 +59,11 @@ is_parted (byte ∷ bytes) = is_blank byte
 unfoldable pub statement_at : List ℕ → Option (Statement × List ℕ)
 statement_at text =
     if length text == 0 then Some (the.Empty, [])
-    else if is_parted (behind_word text) then operation (word_of text) (behind_word text)
+    else if is_parted (after_name text) then operation (word_of text) (after_name text)
     else None
 
 -- a line: its labels, and its statement with the name or the string that it has
-pub record Line : Type 0 where
+pub record LineParts : Type 0 where
   pub labels : List (List ℕ)
   pub statement : Statement
   pub text : List ℕ
@@ -73,7 +73,7 @@ unfoldable pub body_of : List ℕ → List ℕ
 body_of bytes = skip_blanks (take (code_len Outside bytes) bytes)
 
 -- the line that these bytes are, if they have a form
-unfoldable pub line_of : List ℕ → Option Line
+unfoldable pub line_of : List ℕ → Option LineParts
 line_of bytes = do
   statement ← statement_at (labels_of (body_of bytes)).1
   Some (record { labels = (labels_of (body_of bytes)).0; statement = statement.0; text = statement.1 })

@@ -1,7 +1,7 @@
 -- The parts of a statement. Blanks may stand before each; what stands after one comes with it.
 use Rattle.std.specs.Prelude.{ℕ, ◌+◌, ◌==◌, ◌||◌, Bool, true, false, if◌then◌else◌, Option, Some, None, List, [], ◌∷◌, take, drop, length}
 use Rattle.std.specs.Option.{option_and_then, option_map}
-use Rattle.rv_asm.specs.Bytes.{skip_blanks, word_of, behind_word, is_name}
+use Rattle.rv_asm.specs.Bytes.{skip_blanks, word_of, after_name, is_name}
 use Rattle.rv_asm.specs.Registers.{register_of}
 use Rattle.rv_asm.specs.Numbers.{size_of}
 use Rattle.rv_asm.specs.declared.number.Number.{Number}
@@ -26,17 +26,17 @@ sign_at sign text = after_sign sign (skip_blanks text)
 unfoldable pub register_at : List ℕ → Option (ℕ × List ℕ)
 register_at text = do
   number ← register_of (word_of (skip_blanks text))
-  Some (number, behind_word (skip_blanks text))
+  Some (number, after_name (skip_blanks text))
 
 -- a name
 unfoldable pub name_at : List ℕ → Option (List ℕ × List ℕ)
-name_at text = if is_name (word_of (skip_blanks text)) then Some (word_of (skip_blanks text), behind_word (skip_blanks text)) else None
+name_at text = if is_name (word_of (skip_blanks text)) then Some (word_of (skip_blanks text), after_name (skip_blanks text)) else None
 
 -- the size of a number, directly after its sign
 abbrev pub sized_at : Bool → List ℕ → Option (Number × List ℕ)
 sized_at negative text = do
   size ← size_of (word_of text)
-  Some (record { negative = negative; size = size }, behind_word text)
+  Some (record { negative = negative; size = size }, after_name text)
 
 abbrev pub signed_at : List ℕ → Option (Number × List ℕ)
 signed_at [] = None

@@ -6,7 +6,7 @@ ghost use Rattle.pn_types.specs.Images.{IsImage, text_of};
 ghost use Rattle.pn_types.specs.GoodNames.{is_good_name};
 ghost use Rattle.std.specs.List.{All};
 ghost use Rattle.rv_asm.specs.Assembly.{sized, completed, assembled, names_room};
-ghost use Rattle.rv_asm.specs.Seen.{Gives};
+ghost use Rattle.rv_asm.specs.Seen.{IsSeenAs};
 ghost use Rattle.rv_asm.specs.Means.{Means};
 
 use crate::draft::{DATA_START, Draft};
@@ -23,7 +23,7 @@ const MAX_DATA_LEN: u128 = 16_777_216;
 /// The image of the draft, whose text has these bytes, if the text is there, and neither it nor the data is too long.
 #[tactic(auto, unfolding(crate::specs::Assembly::sized))]
 fn sized(alloc: Global, draft: &Draft, text: Vec<u8>) -> Result<Image, AsmError>
-    ensures { Gives (λ image. image) result (sized draft.now text.items) }
+    ensures { IsSeenAs (λ image. image) result (sized draft.now text.items) }
 {
     if text.is_empty() {
         return Err(AsmFault::NoText.into());
@@ -40,7 +40,7 @@ fn sized(alloc: Global, draft: &Draft, text: Vec<u8>) -> Result<Image, AsmError>
 
 /// The program of what the lines make, if no procedure is open.
 fn completed(alloc: Global, draft: &Draft) -> Result<Image, AsmError>
-    ensures { Gives (λ image. image) result (completed draft.now) }
+    ensures { IsSeenAs (λ image. image) result (completed draft.now) }
 {
     if let Some(line) = draft.opened {
         return Err(AsmFault::BadLine(line).into());

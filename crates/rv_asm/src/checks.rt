@@ -2,7 +2,7 @@
 
 ghost use Rattle.std.specs.Prelude.{◌≡◌, ◌%◌, ◌^◌};
 ghost use Rattle.rv_asm.specs.Numbers.{wrapped};
-ghost use Rattle.rv_asm.specs.Checks.{in_text, value_stands, stands, value_fits, immediate_fits, numbers_fit, value_has_x31, has_x31};
+ghost use Rattle.rv_asm.specs.Checks.{in_text, value_stands, may_stand, value_fits, immediate_fits, numbers_fit, value_has_x31, has_x31};
 
 use crate::number::Number;
 use crate::statement::{Section, Statement, ValueWidth};
@@ -31,9 +31,9 @@ fn value_stands(width: ValueWidth, section: Section) -> bool
 }
 
 /// Whether the statement stands in the section, a procedure being open or not.
-#[tactic(auto, unfolding(crate::specs::Checks::stands))]
+#[tactic(auto, unfolding(crate::specs::Checks::may_stand))]
 pub(crate) fn stands(section: Section, inside: bool, statement: &Statement) -> bool
-    ensures { result ≡ stands section inside statement.now }
+    ensures { result ≡ may_stand section inside statement.now }
 {
     match *statement {
         Statement::Empty | Statement::Text | Statement::Data | Statement::Module => true,

@@ -2,7 +2,7 @@
 
 ghost use Rattle.std.specs.Prelude.{◌≡◌, ◌≤◌, ◌<◌, ◌+◌, ◌^◌, true, IfOk, OnOk};
 ghost use Rattle.rv_asm.specs.Checks.{numbers_fit};
-ghost use Rattle.rv_asm.specs.FirstPass.{text_end, data_end, here, good_module, placed_after, declaring, ended, after, blank_draft};
+ghost use Rattle.rv_asm.specs.FirstPass.{text_end, data_end, here, good_module, placed_after, declaring, draft_ended, draft_after_statement, blank_draft};
 
 use crate::addresses::Labels;
 use crate::layout::len;
@@ -176,7 +176,7 @@ impl<'a> Draft<'a> {
 
     /// The open procedure ends here.
     fn end_procedure(&mut self) -> Result<(), AllocError>
-        ensures value { OnOk result (self.new ≡ ended self.old) }
+        ensures value { OnOk result (self.new ≡ draft_ended self.old) }
         ensures text_grows { OnOk result (text_end self.new ≤ text_end self.old + 2 ^ 64) }
         ensures data_grows { OnOk result (data_end self.new ≤ data_end self.old + 2 ^ 64) }
     {
@@ -186,7 +186,7 @@ impl<'a> Draft<'a> {
     }
 
     /// What the statement adds.
-    #[tactic(auto, unfolding(crate::specs::FirstPass::after))]
+    #[tactic(auto, unfolding(crate::specs::FirstPass::draft_after_statement))]
     pub(crate) fn apply(
         &mut self,
         line: u32,
@@ -196,7 +196,7 @@ impl<'a> Draft<'a> {
         requires fits { numbers_fit statement ≡ true }
         requires text_room { text_end self.old < 2 ^ 100 }
         requires data_room { data_end self.old < 2 ^ 100 }
-        ensures value { OnOk result (self.new ≡ after line self.old statement text.now) }
+        ensures value { OnOk result (self.new ≡ draft_after_statement line self.old statement text.now) }
         ensures text_grows { OnOk result (text_end self.new ≤ text_end self.old + 2 ^ 64) }
         ensures data_grows { OnOk result (data_end self.new ≤ data_end self.old + 2 ^ 64) }
     {

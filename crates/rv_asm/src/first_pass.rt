@@ -3,8 +3,8 @@
 ghost use Rattle.std.specs.Prelude.{◌≡◌, ◌≤◌, ◌<◌, ◌+◌, ◌^◌, true, IfOk, OnOk, map, length};
 ghost use Rattle.pn_text.specs.Lines.{lines};
 ghost use Rattle.rv_asm.specs.Checks.{numbers_fit};
-ghost use Rattle.rv_asm.specs.FirstPass.{judged, define, define_all, define_own, stepped, passed, blank_draft, text_end, data_end};
-ghost use Rattle.rv_asm.specs.Seen.{Gives, Leaves, line_seen};
+ghost use Rattle.rv_asm.specs.FirstPass.{judged_line, define, define_all, define_own, stepped, draft_after_lines, blank_draft, text_end, data_end};
+ghost use Rattle.rv_asm.specs.Seen.{IsSeenAs, Leaves, line_seen};
 
 use crate::addresses::Labels;
 use crate::checks::{has_x31, numbers_fit, stands};
@@ -16,7 +16,7 @@ use pn_text::next_line;
 use std::alloc::Global;
 
 /// The line with this number, if it has a form, stands there, its numbers fit and it doesn't name x31.
-#[tactic(auto, unfolding(crate::specs::FirstPass::judged))]
+#[tactic(auto, unfolding(crate::specs::FirstPass::judged_line))]
 fn judged<'a>(
     alloc: Global,
     line: u32,
@@ -24,7 +24,7 @@ fn judged<'a>(
     inside: bool,
     bytes: &'a [u8],
 ) -> Result<ParsedLine<'a>, AsmError>
-    ensures value { Gives line_seen result (judged line section inside bytes.now) }
+    ensures value { IsSeenAs line_seen result (judged_line line section inside bytes.now) }
     ensures fits { IfOk result (λ parsed. numbers_fit parsed.statement ≡ true) }
 {
     let Some(parsed) = parse(alloc, bytes)? else {
@@ -120,7 +120,7 @@ impl<'a> Draft<'a> {
 /// What the lines of the text make, or the fault of the first that is faulty.
 pub(crate) fn pass<'a>(alloc: Global, text: &'a [u8]) -> Result<Draft<'a>, AsmError>
     requires { length text.now < 2 ^ 31 }
-    ensures { Gives (λ draft. draft) result (passed 1 blank_draft (lines text.now)) }
+    ensures { IsSeenAs (λ draft. draft) result (draft_after_lines 1 blank_draft (lines text.now)) }
 {
     let mut draft = Draft::new(alloc);
     let mut rest = text;

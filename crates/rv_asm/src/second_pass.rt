@@ -4,7 +4,7 @@ ghost use Rattle.std.specs.Prelude.{◌≡◌, ◌≤◌, ◌<◌, ◌+◌, ◌^
 ghost use Rattle.rv_word.specs.Fields.{extended};
 ghost use Rattle.rv_asm.specs.SecondPass.{word_bytes, instr_bytes, with_number, upper, lower, pair_bytes, number_bytes, reach, reaches, distance, jump_bytes, address_bytes, code_of, code, joined};
 ghost use Rattle.rv_asm.specs.DraftSeen.{placed_seen};
-ghost use Rattle.rv_asm.specs.Seen.{Gives, Leaves};
+ghost use Rattle.rv_asm.specs.Seen.{IsSeenAs, Leaves};
 
 use crate::addresses::Labels;
 use crate::draft::Placed;
@@ -233,7 +233,7 @@ pub(crate) fn code(
     labels: &Labels,
     text_part: &[Placed],
 ) -> Result<Vec<u8>, AsmError>
-    ensures { Gives (λ bytes. bytes.items) result (code labels.now (map placed_seen text_part.now)) }
+    ensures { IsSeenAs (λ bytes. bytes.items) result (code labels.now (map placed_seen text_part.now)) }
 {
     let mut out = Vec::new(alloc);
     for placed in text_part {

@@ -3,7 +3,7 @@
 ghost use Rattle.std.specs.Prelude.{◌≡◌, ◌≤◌, ◌<◌, false, length, IfSome};
 ghost use Rattle.std.specs.Option.{option_map};
 ghost use Rattle.std.specs.List.{prefix_len};
-ghost use Rattle.rv_asm.specs.Bytes.{is_blank, is_name_byte, is_name, skip_blanks, word_of, behind_word};
+ghost use Rattle.rv_asm.specs.Bytes.{is_blank, is_name_byte, is_name, skip_blanks, word_of, after_name};
 ghost use Rattle.rv_asm.specs.Tokens.{ends, sign_at, register_at, name_at, sized_at, number_at, pointer_at, string_len, string_at};
 
 use crate::number::{Number, size};
@@ -47,10 +47,10 @@ pub(crate) fn skip_blanks(text: &[u8]) -> &[u8]
 }
 
 /// The bytes of names that stand first, and what stands after them.
-#[tactic(auto, unfolding(crate::specs::Bytes::word_of, crate::specs::Bytes::behind_word))]
+#[tactic(auto, unfolding(crate::specs::Bytes::word_of, crate::specs::Bytes::after_name))]
 pub(crate) fn word(text: &[u8]) -> (&[u8], &[u8])
     ensures word { result.0.now ≡ word_of text.now }
-    ensures rest { result.1.now ≡ behind_word text.now }
+    ensures rest { result.1.now ≡ after_name text.now }
     ensures shorter { length result.1.now ≤ length text.now }
 {
     text.split_at(name_bytes(text))

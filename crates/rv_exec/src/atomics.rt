@@ -1,14 +1,14 @@
 //! Atomic accesses.
 
 ghost use Rattle.std.specs.Prelude.{◌≡◌, ◌<◌, ◌%◌, ◌^◌, Ok, length, List, ℕ, Option, IfOk, IfErr, IfSome, None};
-ghost use Rattle.rv_word.specs.Exec.{Outcome, Stops, Prog, perform, done, prog_of, stop_of, atomic, exec_decoded};
+ghost use Rattle.rv_word.specs.Exec.{Outcome, Stops, Prog, perform, done_of_outcome, prog_of, stop_of, atomic, exec_decoded};
 ghost use Rattle.rv_word.specs.Memory.{load};
 ghost use Rattle.rv_word.specs.Values.{atomic_len, answered, less_signed, less_unsigned, left_by};
 ghost use Rattle.rv_word.specs.Words.{HasWord};
 ghost use Rattle.rv_word.specs.declared.action.Action.TheVariants.{LoadReserved, StoreConditional, AtomicAccess};
 ghost use Rattle.rv_exec.specs.AtomicAccesses.{IsAtomicAccess, answering};
 ghost use Rattle.rv_exec.specs.Flat.{instr_of};
-ghost use Rattle.rv_exec.specs.Gives.{Gives, state_from, next_after};
+ghost use Rattle.rv_exec.specs.Gives.{IsExecuted, state_from, next_after};
 
 use crate::flat::Flat;
 use crate::outcomes::{cause_of, next_pc};
@@ -112,7 +112,7 @@ fn load_reserved(
     requires { hart < length resv.old }
     ensures harts { length resv.new ≡ length resv.old }
     ensures value { (rd pc : ℕ) (regs out : List ℕ)
-        → done (perform hart (LoadReserved width rd at) pc regs (prog_of mem.now resv.old out)) regs
+        → done_of_outcome (perform hart (LoadReserved width rd at) pc regs (prog_of mem.now resv.old out)) regs
         ≡ answering result rd pc regs (prog_of mem.now resv.new out) }
 {
     let old = read(width, at, mem)?;
@@ -134,7 +134,7 @@ fn store_conditional(
     requires { hart < length resv.old }
     ensures harts { length resv.new ≡ length resv.old }
     ensures value { (rd pc : ℕ) (regs out : List ℕ)
-        → done (perform hart (StoreConditional width rd at value) pc regs (prog_of mem.old resv.old out)) regs
+        → done_of_outcome (perform hart (StoreConditional width rd at value) pc regs (prog_of mem.old resv.old out)) regs
         ≡ answering result rd pc regs (prog_of mem.new resv.new out) }
 {
     let has_reserved = resv.has(hart, at / 8);
@@ -166,7 +166,7 @@ fn amo(
     requires { hart < length resv.old }
     ensures harts { length resv.new ≡ length resv.old }
     ensures value { (rd pc : ℕ) (regs out : List ℕ)
-        → done (perform hart (AtomicAccess op width rd at value) pc regs (prog_of mem.old resv.old out)) regs
+        → done_of_outcome (perform hart (AtomicAccess op width rd at value) pc regs (prog_of mem.old resv.old out)) regs
         ≡ answering result rd pc regs (prog_of mem.new resv.new out) }
 {
     let old = read(width, at, mem)?;
@@ -220,7 +220,7 @@ pub fn access(
     requires hart { hart < length resv.old }
     requires stop { stop.old ≡ None }
     ensures harts { length resv.new ≡ length resv.old }
-    ensures state { (out : List ℕ) → Gives (exec_decoded (instr_of flat.now) pc hart)
+    ensures state { (out : List ℕ) → IsExecuted (exec_decoded (instr_of flat.now) pc hart)
         (state_from regs.old mem.old resv.old out) (next_after stop.new result) (state_from regs.new mem.new resv.new out) }
 {
     match *flat {

@@ -2,7 +2,7 @@
 
 ghost use Rattle.std.specs.Prelude.{◌≡◌, ◌≤◌, List, ℕ, Option, None, min};
 ghost use Rattle.rv_word.specs.Exec.{system_call, minus, written_is};
-ghost use Rattle.rv_exec.specs.Gives.{Gives, state_from, next_after};
+ghost use Rattle.rv_exec.specs.Gives.{IsExecuted, state_from, next_after};
 ghost use Rattle.rv_word.specs.Memory.{bytes_at};
 
 use crate::outcomes::next_pc;
@@ -53,7 +53,7 @@ fn write(at: u64, len: u64, mem: &Mem, out: &mut Output) -> Result<u64, u64>
 #[inline(never)]
 pub fn call(pc: u64, stop: &mut Option<Cause>, regs: &mut Regs, mem: &Mem, out: &mut Output) -> u64
     requires { stop.old ≡ None }
-    ensures { (resv : List (Option ℕ)) → Gives (system_call pc)
+    ensures { (resv : List (Option ℕ)) → IsExecuted (system_call pc)
         (state_from regs.old mem.now resv out.old) (next_after stop.new result) (state_from regs.new mem.now resv out.new) }
 {
     let number = regs.get(17);

@@ -2,7 +2,7 @@
 
 ghost use Rattle.std.specs.Prelude.{◌≡◌, ◌<◌, length, None, is_none};
 ghost use Rattle.rv_word.specs.Exec.{exec_of};
-ghost use Rattle.rv_exec.specs.Gives.{Gives, state_of, next_after};
+ghost use Rattle.rv_exec.specs.Gives.{IsExecuted, state_of, next_after};
 ghost use Rattle.rv_exec.specs.Shared.{prog_in};
 
 use crate::flat::{Flat, flattened};
@@ -68,7 +68,7 @@ impl Decoded {
         requires stop { stop.old ≡ None }
         requires hart { hart < length shared.old.resv }
         ensures goes { result ≡ is_none stop.new }
-        ensures state { Gives (exec_of self.now pc.old hart)
+        ensures state { IsExecuted (exec_of self.now pc.old hart)
             (state_of regs.old (prog_in shared.old)) (next_after stop.new pc.new) (state_of regs.new (prog_in shared.new)) }
     {
         self.flat.run::<Decoded>(hart, pc, stop, regs, shared)

@@ -2,7 +2,7 @@
 
 ghost use Rattle.std.specs.Prelude.{◌<◌, length};
 ghost use Rattle.rv_word.specs.Exec.{exec_of};
-ghost use Rattle.rv_exec.specs.Gives.{Gives, state_of};
+ghost use Rattle.rv_exec.specs.Gives.{IsExecuted, state_of};
 ghost use Rattle.rv_exec.specs.Shared.{prog_in};
 
 use crate::decoded::Decoded;
@@ -15,7 +15,7 @@ use rv_word::Next;
 /// A stop changes nothing, but that an SC clears the hart's reservation also where it stops. It takes no memory.
 pub fn exec(word: u32, pc: u64, hart: HartNo, regs: &mut Regs, shared: &mut Shared) -> Next
     requires { hart < length shared.old.resv }
-    ensures { Gives (exec_of word pc hart) (state_of regs.old (prog_in shared.old)) result (state_of regs.new (prog_in shared.new)) }
+    ensures { IsExecuted (exec_of word pc hart) (state_of regs.old (prog_in shared.old)) result (state_of regs.new (prog_in shared.new)) }
 {
     let mut next = pc;
     let mut stop = None;

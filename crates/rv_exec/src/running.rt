@@ -5,7 +5,7 @@ ghost use Rattle.std.specs.Prelude.{◌≡◌, ◌<◌, length, None, is_none, I
 ghost use Rattle.rv_word.specs.Exec.{exec_decoded};
 ghost use Rattle.rv_word.specs.Words.{HasWord};
 ghost use Rattle.rv_exec.specs.Flat.{instr_of};
-ghost use Rattle.rv_exec.specs.Gives.{Gives, state_of, next_after};
+ghost use Rattle.rv_exec.specs.Gives.{IsExecuted, state_of, next_after};
 ghost use Rattle.rv_exec.specs.Shared.{prog_in};
 
 use crate::atomics::access;
@@ -43,7 +43,7 @@ impl Flat {
         requires hart { hart < length shared.old.resv }
         requires stop { stop.old ≡ None }
         ensures goes { result ≡ is_none stop.new }
-        ensures state { Gives (exec_decoded (instr_of self.now) pc.old hart)
+        ensures state { IsExecuted (exec_decoded (instr_of self.now) pc.old hart)
             (state_of regs.old (prog_in shared.old)) (next_after stop.new pc.new) (state_of regs.new (prog_in shared.new)) }
     {
         match *self {

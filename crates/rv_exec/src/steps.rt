@@ -6,7 +6,7 @@ ghost use Rattle.rv_word.specs.Exec.{Prog, perform, next};
 ghost use Rattle.rv_word.specs.Registers.{reg, with_reg};
 ghost use Rattle.rv_word.specs.Values.{imm_value, shift_value, shift_word_value, reg_value, reg_32_value, store_len};
 ghost use Rattle.rv_word.specs.declared.action.Action.TheVariants.{Jump, BranchTo, ReadMemory, WriteMemory};
-ghost use Rattle.rv_exec.specs.Gives.{Gives, state_from, state_of, next_after};
+ghost use Rattle.rv_exec.specs.Gives.{IsExecuted, state_from, state_of, next_after};
 ghost use Rattle.rv_exec.specs.Shared.{prog_in};
 
 use crate::outcomes::{cause_of, next_pc};
@@ -102,7 +102,7 @@ pub fn jump(rd: u32, target: u64, pc: &mut u64, stop: &mut Option<Cause>, regs: 
     requires stop { stop.old ≡ None }
     ensures goes { result ≡ is_none stop.new }
     ensures state { (p : Prog)
-        → Gives (perform 0 (Jump rd target) pc.old) (state_of regs.old p) (next_after stop.new pc.new) (state_of regs.new p) }
+        → IsExecuted (perform 0 (Jump rd target) pc.old) (state_of regs.old p) (next_after stop.new pc.new) (state_of regs.new p) }
 {
     if target % 4 != 0 {
         *stop = Some(Cause::Misaligned);
@@ -120,7 +120,7 @@ pub fn branch(taken: bool, target: u64, pc: &mut u64, stop: &mut Option<Cause>) 
     requires { stop.old ≡ None }
     ensures goes { result ≡ is_none stop.new }
     ensures state { (p : Prog) (regs : List ℕ)
-        → Gives (perform 0 (BranchTo taken target) pc.old) (state_of regs p) (next_after stop.new pc.new) (state_of regs p) }
+        → IsExecuted (perform 0 (BranchTo taken target) pc.old) (state_of regs p) (next_after stop.new pc.new) (state_of regs p) }
 {
     if !taken {
         *pc = next_pc(*pc);
@@ -149,7 +149,7 @@ fn read_anywhere(
     requires stop { stop.old ≡ None }
     ensures goes { result ≡ is_none stop.new }
     ensures state { (pc : ℕ) (resv : List (Option ℕ)) (out : List ℕ)
-        → Gives (perform 0 (ReadMemory op rd at) pc)
+        → IsExecuted (perform 0 (ReadMemory op rd at) pc)
         (state_from regs.old mem.now resv out) (next_after stop.new (next pc)) (state_from regs.new mem.now resv out) }
 {
     match mem.load(at, load_width(op)) {
@@ -180,7 +180,7 @@ pub fn read(
     requires stop { stop.old ≡ None }
     ensures goes { result ≡ is_none stop.new }
     ensures state { (resv : List (Option ℕ)) (out : List ℕ)
-        → Gives (perform 0 (ReadMemory op rd at) pc.old)
+        → IsExecuted (perform 0 (ReadMemory op rd at) pc.old)
         (state_from regs.old mem.now resv out) (next_after stop.new pc.new) (state_from regs.new mem.now resv out) }
 {
     if let Some(n) = mem.quick_load(at, load_width(op)) {
@@ -213,7 +213,7 @@ fn write_anywhere(
     ensures harts { length resv.new ≡ length resv.old }
     ensures goes { result ≡ is_none stop.new }
     ensures state { (pc : ℕ) (regs out : List ℕ)
-        → Gives (perform hart (WriteMemory len at value) pc)
+        → IsExecuted (perform hart (WriteMemory len at value) pc)
         (state_from regs mem.old resv.old out) (next_after stop.new (next pc)) (state_from regs mem.new resv.new out) }
 {
     match mem.store(at, len, value) {
@@ -244,7 +244,7 @@ pub fn write(
     requires stop { stop.old ≡ None }
     ensures harts { length shared.new.resv ≡ length shared.old.resv }
     ensures goes { result ≡ is_none stop.new }
-    ensures state { (regs : List ℕ) → Gives (perform hart (WriteMemory (store_len op) at value) pc.old)
+    ensures state { (regs : List ℕ) → IsExecuted (perform hart (WriteMemory (store_len op) at value) pc.old)
         (state_of regs (prog_in shared.old)) (next_after stop.new pc.new) (state_of regs (prog_in shared.new)) }
 {
     let len = store_width(op);

@@ -3,7 +3,7 @@
 ghost use Rattle.std.specs.Prelude.{◌≡◌, ◌≢◌, ◌<◌, ◌^◌, ◌*ℤ◌, pos};
 ghost use Rattle.std.specs.Int.{w32, cast_signed, cast_unsigned};
 ghost use Rattle.std.specs.Int.RustNames.{int_div};
-ghost use Rattle.rv_word.specs.Values.{imm_value, shift_value, shift_word_value, taken, reg_value, reg_32_value, high, loaded, load_len, low_word, store_len, flag};
+ghost use Rattle.rv_word.specs.Values.{imm_value, shift_value, shift_word_value, is_branch_taken, reg_value, reg_32_value, high, loaded, load_len, low_word, store_len, flag};
 
 use rv_word::{BranchOp, ImmOp, LoadOp, RegOp, RegOp32, ShiftOp, StoreOp};
 
@@ -156,7 +156,7 @@ pub fn reg_32_result(op: RegOp32, x: u64, y: u64) -> u64
 
 /// Whether a branch is taken.
 pub fn is_taken(op: BranchOp, x: u64, y: u64) -> bool
-    ensures { result ≡ taken op x y }
+    ensures { result ≡ is_branch_taken op x y }
 {
     match op {
         BranchOp::Beq => x == y,

@@ -3,7 +3,7 @@ use Rattle.std.proofs.Common.{◌≡◌, ℕ, zero, suc, ◌+◌, ◌-◌, ◌*�
 use Rattle.std.specs.Prelude.{false, slice_index, IfSome}
 use Rattle.std.proofs.lemmas.Bool.{cond-false}
 use Rattle.std.specs.FinMap.{get}
-use Rattle.rv_word.specs.Memory.{Memory, cell, mapped, in_range, load, after, ◌>>=◌}
+use Rattle.rv_word.specs.Memory.{Memory, cell, mapped, in_range, load, next_address, ◌>>=◌}
 use Rattle.rv_mem.specs.Regions.{place_in, place_of, byte_or, first_byte, little_endian, with_high, number_in, HasRange}
 use Rattle.rv_mem.specs.declared.region.Region.{Region}
 use Rattle.rv_mem.specs.declared.region.Spot.{Spot}
@@ -33,10 +33,10 @@ unfolding load
 loaded zero m a v l out e = ap (λ o. mapped o 0) e
 loaded (suc n) m a v l out e =
     let p = with_high-is (get m.cells a) (number_in n (get m.cells) (a + 1)) v e in
-    let w : after a ≡ a + 1 = omega arith in
+    let w : next_address a ≡ a + 1 = omega arith in
     let first : cell m a ≡ Ok p.0 = cond-false (in_range m.text_at m.text_len a) _ _ (out a (omega arith) (omega arith)) ∙ ap (λ o. mapped o a) p.2 in
-    let others : load n m (after a) ≡ Ok p.1 = ap (load n m) w ∙ loaded n m (a + 1) p.1 (omega arith) (λ q g k. out q (omega arith) (omega arith)) p.3 in
-    ap (λ r. r >>= λ low. load n m (after a) >>= λ high. Ok (low + high * 256)) first
+    let others : load n m (next_address a) ≡ Ok p.1 = ap (load n m) w ∙ loaded n m (a + 1) p.1 (omega arith) (λ q g k. out q (omega arith) (omega arith)) p.3 in
+    ap (λ r. r >>= λ low. load n m (next_address a) >>= λ high. Ok (low + high * 256)) first
     ∙ ap (λ r. r >>= λ high. Ok (p.0 + high * 256)) others
     ∙ ap Ok p.4
 

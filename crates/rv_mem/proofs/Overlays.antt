@@ -3,7 +3,7 @@ use Rattle.std.proofs.Common.{◌≡◌, ℕ, zero, suc, ◌+◌, ◌-◌, ◌/�
 use Rattle.std.specs.Option.{IsSome}
 use Rattle.std.specs.FinMap.{from_entries, get, same_map, nat_cmp-IsAntisymmetric}
 use Rattle.std.proofs.lemmas.Cmp.{nat_cmp_total}
-use Rattle.rv_word.specs.Memory.{Memory, in_range, load, store, put, set_byte, after, ◌>>=◌}
+use Rattle.rv_word.specs.Memory.{Memory, in_range, load, store, put_bytes, set_byte, next_address, ◌>>=◌}
 use Rattle.rv_mem.specs.Regions.{place_in, place_of, byte_or, first_byte, entries_of, number_in, with_number, overlaid, HasRange}
 use Rattle.rv_mem.specs.declared.region.Region.{Region}
 use Rattle.rv_mem.specs.declared.region.Spot.{Spot}
@@ -65,26 +65,26 @@ written_spot rs spot d new n a v x h is ea eb =
 
 -- ---- in the memory
 
-get-put : (n : ℕ) (m : Memory) (a v x : ℕ) → a + n < 2 ^ 64 → get (put n m a v).cells x ≡ overlaid n v a x (get m.cells x)
-unfolding put
+get-put : (n : ℕ) (m : Memory) (a v x : ℕ) → a + n < 2 ^ 64 → get (put_bytes n m a v).cells x ≡ overlaid n v a x (get m.cells x)
+unfolding put_bytes
 get-put zero m a v x h = refl
 get-put (suc n) m a v x h =
-    let e : after a ≡ a + 1 = omega arith in
-    ap (λ z. get (put n (set_byte m a (v % 256)) z (v / 256)).cells x) e
+    let e : next_address a ≡ a + 1 = omega arith in
+    ap (λ z. get (put_bytes n (set_byte m a (v % 256)) z (v / 256)).cells x) e
     ∙ get-put n (set_byte m a (v % 256)) (a + 1) (v / 256) x (omega arith)
     ∙ ap (overlaid n (v / 256) (a + 1) x) (get_put m a (v % 256) x)
 
 -- the text stays where it was
-put-text : (n : ℕ) (m : Memory) (a v : ℕ) → put n m a v ≡ record { text_at = m.text_at; text_len = m.text_len; cells = (put n m a v).cells }
-unfolding put
+put-text : (n : ℕ) (m : Memory) (a v : ℕ) → put_bytes n m a v ≡ record { text_at = m.text_at; text_len = m.text_len; cells = (put_bytes n m a v).cells }
+unfolding put_bytes
 put-text zero m a v = refl
-put-text (suc n) m a v = put-text n (set_byte m a (v % 256)) (after a) (v / 256)
+put-text (suc n) m a v = put-text n (set_byte m a (v % 256)) (next_address a) (v / 256)
 
 -- the memory that regions and a text stand for
 abbrev pub memory_in : ℕ → ℕ → List Region → Memory
 memory_in text_at text_len rs = record { text_at = text_at; text_len = text_len; cells = from_entries (entries_of rs) }
 
-put-regions : (n text_at text_len : ℕ) (rs new : List Region) (a v : ℕ) → a + n < 2 ^ 64 → ((q : ℕ) → first_byte new q ≡ overlaid n v a q (first_byte rs q)) → put n (memory_in text_at text_len rs) a v ≡ memory_in text_at text_len new
+put-regions : (n text_at text_len : ℕ) (rs new : List Region) (a v : ℕ) → a + n < 2 ^ 64 → ((q : ℕ) → first_byte new q ≡ overlaid n v a q (first_byte rs q)) → put_bytes n (memory_in text_at text_len rs) a v ≡ memory_in text_at text_len new
 put-regions n text_at text_len rs new a v h written =
     put-text n (memory_in text_at text_len rs) a v
     ∙ ap (λ cells. record { text_at = text_at; text_len = text_len; cells = cells }) (same_map nat_cmp_total nat_cmp-IsAntisymmetric _ _ (λ q.
@@ -98,4 +98,4 @@ pub store-regions : (n text_at text_len : ℕ) (rs new : List Region) (a v : ℕ
 store-regions n text_at text_len rs new a v h out there written =
     let m = memory_in text_at text_len rs in
     let old = loaded_some n m a (number_in n (first_byte rs) a) h out (ap (λ f. number_in n f a) (funext (get_flat rs))) there in
-    ap (λ r. r >>= λ _. Ok (put n m a v)) old.1 ∙ ap Ok (put-regions n text_at text_len rs new a v h written)
+    ap (λ r. r >>= λ _. Ok (put_bytes n m a v)) old.1 ∙ ap Ok (put-regions n text_at text_len rs new a v h written)

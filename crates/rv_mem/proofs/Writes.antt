@@ -9,7 +9,7 @@ use Rattle.std.proofs.lemmas.Cmp.{nat_cmp_total}
 use Rattle.std.specs.Cmp.{unsigned_tied}
 use Rattle.rv_word.specs.declared.outcome.MemStop.{MemStop}
 use Rattle.rv_word.specs.declared.outcome.MemStop.TheVariants.{InText}
-use Rattle.rv_word.specs.Memory.{Memory, cell, mapped, in_range, set_byte, load, after, ◌>>=◌}
+use Rattle.rv_word.specs.Memory.{Memory, cell, mapped, in_range, set_byte, load, next_address, ◌>>=◌}
 use Rattle.rv_mem.specs.Regions.{place_in, place_of, byte_or, first_byte}
 use Rattle.rv_mem.specs.declared.region.Region.{Region}
 
@@ -80,12 +80,12 @@ pub kept : (n : ℕ) (m : Memory) (x b a : ℕ) → IsOk (load n m a) → IsOk (
 unfolding load
 kept zero m x b a h = h
 kept (suc n) m x b a h =
-    let p = ok_bind (cell m a) (load n m (after a)) h in
-    bind_ok (cell (set_byte m x b) a) (load n (set_byte m x b) (after a)) (cell_kept m x b a p.0) (kept n m x b (after a) p.1)
+    let p = ok_bind (cell m a) (load n m (next_address a)) h in
+    bind_ok (cell (set_byte m x b) a) (load n (set_byte m x b) (next_address a)) (cell_kept m x b a p.0) (kept n m x b (next_address a) p.1)
 
-pub rest_ok : (n k : ℕ) (m : Memory) (a : ℕ) → n ≡ suc k → IsOk (load n m a) → IsOk (cell m a) × IsOk (load k m (after a))
+pub rest_ok : (n k : ℕ) (m : Memory) (a : ℕ) → n ≡ suc k → IsOk (load n m a) → IsOk (cell m a) × IsOk (load k m (next_address a))
 unfolding load
-rest_ok n k m a e h = ok_bind (cell m a) (load k m (after a)) (subst (λ j. IsOk (load j m a)) e h)
+rest_ok n k m a e h = ok_bind (cell m a) (load k m (next_address a)) (subst (λ j. IsOk (load j m a)) e h)
 
 -- a byte that can be read is some region's
 pub is_there : (t : Bool) (e : MemStop) (a : ℕ) (o : Option ℕ) → IsOk (cond t (Err e) (mapped o a)) → IsSome o

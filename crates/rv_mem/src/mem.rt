@@ -1,7 +1,7 @@
 //! The memory of a program, and its accesses.
 
 ghost use Rattle.std.specs.Prelude.{◌≡◌, ◌<◌, ◌≤◌, ◌^◌, ℕ, IfOk, IsOk, IfErr, OnErr, OnOk, IfSome, Ok, length, true, false};
-ghost use Rattle.rv_word.specs.Memory.{cell, in_range, load, store, put, set_byte, bytes_at, memory_of};
+ghost use Rattle.rv_word.specs.Memory.{cell, in_range, load, store, put_bytes, set_byte, bytes_at, memory_of};
 ghost use Rattle.rv_mem.specs.Regions.{parts_of};
 
 use crate::region::{
@@ -182,10 +182,10 @@ impl Mem {
     }
 
     /// Puts the lowest `n` bytes of the number at addresses that may be touched, the lowest first.
-    #[tactic(auto, unfolding(rv_word::specs::Memory::put, rv_word::specs::Memory::load))]
+    #[tactic(auto, unfolding(rv_word::specs::Memory::put_bytes, rv_word::specs::Memory::load))]
     fn put(&mut self, at: u64, n: u32, v: u64)
         requires { IsOk (load n self.old at) }
-        ensures { self.new ≡ put n self.old at v }
+        ensures { self.new ≡ put_bytes n self.old at v }
     {
         if n > 0 {
             self.set_byte(at, (v & 0xff) as u8);

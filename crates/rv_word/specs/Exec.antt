@@ -4,7 +4,7 @@ use Rattle.rv_word.specs.Table.{decode_of}
 use Rattle.rv_word.specs.InstrRegisters.{registers_of}
 use Rattle.rv_word.specs.Memory.{Memory, load, store, bytes_at}
 use Rattle.rv_word.specs.Registers.{reg, with_reg}
-use Rattle.rv_word.specs.Values.{wrap, imm_value, shift_value, shift_word_value, reg_value, reg_32_value, low_word, taken, load_len, loaded, store_len, atomic_len, answered, left_by}
+use Rattle.rv_word.specs.Values.{wrap, imm_value, shift_value, shift_word_value, reg_value, reg_32_value, low_word, is_branch_taken, load_len, loaded, store_len, atomic_len, answered, left_by}
 use Rattle.rv_word.specs.declared.outcome.MemStop.{MemStop}
 use Rattle.rv_word.specs.declared.outcome.MemStop.TheVariants.{Unmapped, InText}
 use Rattle.rv_word.specs.declared.outcome.Cause.{Cause}
@@ -42,7 +42,7 @@ action (Lui rd imm) pc a b = Compute rd imm
 action (Auipc rd imm) pc a b = Compute rd (wrap (pc + imm))
 action (Jal rd offset) pc a b = Jump rd (wrap (pc + offset))
 action (Jalr rd rs1 offset) pc a b = Jump rd (wrap (a + offset) / 2 * 2)
-action (Branch op rs1 rs2 offset) pc a b = BranchTo (taken op a b) (wrap (pc + offset))
+action (Branch op rs1 rs2 offset) pc a b = BranchTo (is_branch_taken op a b) (wrap (pc + offset))
 action (Load op rd rs1 offset) pc a b = ReadMemory op rd (wrap (a + offset))
 action (Store op rs1 rs2 offset) pc a b = WriteMemory (store_len op) (wrap (a + offset)) b
 action (OpImm op rd rs1 imm) pc a b = Compute rd (imm_value op a imm)
@@ -153,9 +153,9 @@ written_is (Err (Unmapped a)) out = (Ok (minus 14), out)
 written_is (Err (InText a)) out = (Err a, out)
 written_is (Ok bs) out = if nat_lt 1048576 (length out + length bs) then (Ok (minus 28), out) else (Ok (length bs), out ++ bs)
 
-abbrev pub written : Result ℕ ℕ × List ℕ → ℕ → List ℕ → Prog → Outcome
-written (Ok answer, out) pc regs p = answers answer pc regs (record { mem = p.mem; resv = p.resv; out = out })
-written (Err a, out) pc regs p = Stops (TextAccess a) p
+abbrev pub outcome_of_write : Result ℕ ℕ × List ℕ → ℕ → List ℕ → Prog → Outcome
+outcome_of_write (Ok answer, out) pc regs p = answers answer pc regs (record { mem = p.mem; resv = p.resv; out = out })
+outcome_of_write (Err a, out) pc regs p = Stops (TextAccess a) p
 
 -- A write is of at most 4,096 bytes; it returns -9 where a0 is neither 1 nor 2. Any other call returns -38.
 abbrev pub system_call : ℕ → List ℕ → Prog → Outcome
@@ -163,7 +163,7 @@ system_call pc regs p =
     if (reg regs 17 == 93) || (reg regs 17 == 94) then Stops (Exit (reg regs 10 % 256)) p
     else if reg regs 17 == 64 then
     (if (reg regs 10 == 1) || (reg regs 10 == 2) then
-    written (written_is (bytes_at (min (reg regs 12) 4096) p.mem (reg regs 11)) p.out) pc regs p
+    outcome_of_write (written_is (bytes_at (min (reg regs 12) 4096) p.mem (reg regs 11)) p.out) pc regs p
     else answers (minus 9) pc regs p)
     else answers (minus 38) pc regs p
 
@@ -173,7 +173,7 @@ system_call pc regs p =
 unfoldable pub perform : ℕ → Action → ℕ → List ℕ → Prog → Outcome
 perform h (Compute rd v) pc regs p = Goes (next pc) (with_reg regs rd v) p
 perform h (Jump rd target) pc regs p = jump_to target (with_reg regs rd (next pc)) p
-perform h (BranchTo taken target) pc regs p = if taken then jump_to target regs p else Goes (next pc) regs p
+perform h (BranchTo is_branch_taken target) pc regs p = if is_branch_taken then jump_to target regs p else Goes (next pc) regs p
 perform h (ReadMemory op rd at) pc regs p = or_stop (load (load_len op) p.mem at) p (λ n. Goes (next pc) (with_reg regs rd (loaded op n)) p)
 perform h (WriteMemory len at v) pc regs p =
     or_stop (store len p.mem at v) p (λ m. Goes (next pc) regs (set_mem p m (broken 0 h (at / 8) (wrap (at + (len - 1)) / 8) p.resv)))
@@ -205,9 +205,9 @@ pub record Done : Type 0 where
   pub regs : List ℕ
   pub prog : Prog
 
-abbrev pub done : Outcome → List ℕ → Done
-done (Stops c p) regs = record { next = Stop c; regs = regs; prog = p }
-done (Goes pc new p) regs = record { next = Go pc; regs = new; prog = p }
+abbrev pub done_of_outcome : Outcome → List ℕ → Done
+done_of_outcome (Stops c p) regs = record { next = Stop c; regs = regs; prog = p }
+done_of_outcome (Goes pc new p) regs = record { next = Go pc; regs = new; prog = p }
 
 abbrev pub prog_of : Memory → List (Option ℕ) → List ℕ → Prog
 prog_of mem resv out = record { mem = mem; resv = resv; out = out }

@@ -43,15 +43,15 @@ abbrev pub ◌>>=◌ : {A B : Type 0} → Result A MemStop → (A → Result B M
 (Err e) >>= f = Err e
 
 -- the address after a
-abbrev pub after : ℕ → ℕ
-after a = (a + 1) % 2 ^ 64
+abbrev pub next_address : ℕ → ℕ
+next_address a = (a + 1) % 2 ^ 64
 
 -- The number in n bytes from a, the lowest first; or the fault of the first byte that cannot be read.
 unfoldable pub load : ℕ → Memory → ℕ → Result ℕ MemStop
 load zero m a = Ok 0
 load (suc n) m a = do
   low ← cell m a
-  high ← load n m (after a)
+  high ← load n m (next_address a)
   Ok (low + high * 256)
 
 -- the n bytes from a, or the fault of the first that cannot be read
@@ -59,19 +59,19 @@ unfoldable pub bytes_at : ℕ → Memory → ℕ → Result (List ℕ) MemStop
 bytes_at zero m a = Ok []
 bytes_at (suc n) m a = do
   first ← cell m a
-  others ← bytes_at n m (after a)
+  others ← bytes_at n m (next_address a)
   Ok (first ∷ others)
 
 -- m with the lowest n bytes of v from a
-unfoldable pub put : ℕ → Memory → ℕ → ℕ → Memory
-put zero m a v = m
-put (suc n) m a v = put n (set_byte m a (v % 256)) (after a) (v / 256)
+unfoldable pub put_bytes : ℕ → Memory → ℕ → ℕ → Memory
+put_bytes zero m a v = m
+put_bytes (suc n) m a v = put_bytes n (set_byte m a (v % 256)) (next_address a) (v / 256)
 
 -- a store: nothing is written unless each byte can be
 abbrev pub store : ℕ → Memory → ℕ → ℕ → Result Memory MemStop
 store n m a v = do
   old ← load n m a
-  Ok (put n m a v)
+  Ok (put_bytes n m a v)
 
 -- the bytes with their addresses
 abbrev pub numbered : ℕ → List ℕ → List (ℕ × ℕ)

@@ -1,7 +1,7 @@
 -- The unpatched program: what its harts have, and one turn of a hart. No trampoline is in this machine.
 use Rattle.std.specs.Prelude.{ℕ, ◌+◌, ◌-◌, ◌/◌, ◌%◌, ◌==◌, ◌&&◌, nat_le, nat_lt, if◌then◌else◌, Bool, false, Option, Some, None, is_none, List, slice_get, slice_set}
 use Rattle.rv_word.specs.Names.{words_of}
-use Rattle.rv_word.specs.Exec.{Prog, Outcome, Stops, exec_of, Done, done}
+use Rattle.rv_word.specs.Exec.{Prog, Outcome, Stops, exec_of, Done, done_of_outcome}
 use Rattle.rv_word.specs.declared.outcome.Cause.{Cause}
 use Rattle.rv_word.specs.declared.outcome.Cause.TheVariants.{FetchOutside}
 use Rattle.rv_word.specs.declared.outcome.Next.{Next}
@@ -52,7 +52,7 @@ after_done d x = record { hart = hart_after d.next d.regs x; prog = d.prog }
 
 -- one turn of hart h by itself
 abbrev pub turn_alone : Words → ℕ → Alone → Alone
-turn_alone t h s = after_done (done (fetched (program_word t s.hart.pc) h s.hart s.prog) s.hart.regs) s.hart
+turn_alone t h s = after_done (done_of_outcome (fetched (program_word t s.hart.pc) h s.hart s.prog) s.hart.regs) s.hart
 
 abbrev pub put_back : Plain → ℕ → Alone → Plain
 put_back s h a = record { harts = slice_set s.harts h a.hart; prog = a.prog }

@@ -119,13 +119,13 @@ reg_32_value reg32.Remuw x y = unless_zero (low_half y) (low_word x) (extended 3
 -- ---- control transfer
 
 -- whether a branch is taken
-abbrev pub taken : BranchOp → ℕ → ℕ → Bool
-taken Beq x y = x == y
-taken Bne x y = not (x == y)
-taken Blt x y = int_lt (signed x) (signed y)
-taken Bge x y = not (int_lt (signed x) (signed y))
-taken Bltu x y = nat_lt x y
-taken Bgeu x y = not (nat_lt x y)
+abbrev pub is_branch_taken : BranchOp → ℕ → ℕ → Bool
+is_branch_taken Beq x y = x == y
+is_branch_taken Bne x y = not (x == y)
+is_branch_taken Blt x y = int_lt (signed x) (signed y)
+is_branch_taken Bge x y = not (int_lt (signed x) (signed y))
+is_branch_taken Bltu x y = nat_lt x y
+is_branch_taken Bgeu x y = not (nat_lt x y)
 
 -- ---- loads and stores
 

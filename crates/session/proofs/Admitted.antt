@@ -10,9 +10,9 @@ use Rattle.mdl_check.specs.declared.checked.CheckedWish.{CheckedWish}
 use Rattle.mdl_plan.specs.declared.fault.PlanFault.{PlanFault}
 use Rattle.instrument.specs.Placements.{Placements, admission}
 use Rattle.instrument.specs.declared.number.Refused.{Refused}
-use Rattle.session_spec.specs.declared.data.Shown.{Shown}
+use Rattle.session_spec.specs.declared.data.MetricFocusPair.{MetricFocusPair}
 use Rattle.session_spec.specs.Inputs.{Inputs, cause_of_plan, cause_of_refusal, planned}
-use Rattle.session_spec.specs.States.{Kept}
+use Rattle.session_spec.specs.States.{SessionState}
 use Rattle.session_spec.specs.Admission.{shown_now, with_admission, with_answer, with_drop, with_plan, with_refused, with_show, with_wish, with_wishes}
 use Rattle.session_spec.specs.Opening.{with_all}
 use Rattle.session_spec.specs.Readings.{lasts_with}
@@ -21,13 +21,13 @@ use Rattle.session_spec.proofs.Going.{wish_time}
 use Rattle.session_kits.specs.declared.kit.Kit.{Kit}
 use Rattle.session_kits.specs.Kits.{AreLive}
 use Rattle.session_kits.proofs.Dropped.{shown_in}
-use Rattle.session.specs.Tables.{IsAdmission, IsCount, IsMore, IsNew, IsStill, Table, hist_at, kept_of}
+use Rattle.session.specs.Tables.{IsAfterAdmission, IsCount, IsMore, IsNew, IsStill, Table, hist_at, kept_of}
 use Rattle.session.proofs.Counting.{count_low, take_many}
 use Rattle.session.proofs.Steps.{none_more, still_first}
 
 -- ---- a wish doesn't look at those that are to come
 
-module _ (i : Inputs) (w : CheckedWish) (ws : List CheckedWish) (k : Kept) where
+module _ (i : Inputs) (w : CheckedWish) (ws : List CheckedWish) (k : SessionState) where
   refused_beside : (o : Option PickCause) → with_refused o w (record k { wishes = ws }) ≡ record (with_refused o w k) { wishes = ws }
   refused_beside None = refl
   refused_beside (Some cause) = refl
@@ -40,11 +40,11 @@ module _ (i : Inputs) (w : CheckedWish) (ws : List CheckedWish) (k : Kept) where
   plan_beside (Err fault) = refused_beside (Some (cause_of_plan fault))
   plan_beside (Ok plan) = answer_beside (admission k.machine.placer plan None) plan
 
-  show_beside : (o : Option Shown) → with_show o i w (record k { wishes = ws }) ≡ record (with_show o i w k) { wishes = ws }
+  show_beside : (o : Option MetricFocusPair) → with_show o i w (record k { wishes = ws }) ≡ record (with_show o i w k) { wishes = ws }
   show_beside (Some s) = refl
   show_beside None = plan_beside (planned i w.metric w.focus)
 
-  drop_beside : (o : Option Shown) → with_drop o w (record k { wishes = ws }) ≡ record (with_drop o w k) { wishes = ws }
+  drop_beside : (o : Option MetricFocusPair) → with_drop o w (record k { wishes = ws }) ≡ record (with_drop o w k) { wishes = ws }
   drop_beside None = refl
   drop_beside (Some s) = refl
 
@@ -58,16 +58,16 @@ module _ (i : Inputs) (w : CheckedWish) (ws : List CheckedWish) (k : Kept) where
       by false = drop_beside (shown_now k w)
 
 -- those that aren't above the time are looked at, and the others are left
-wishes_are : (i : Inputs) (ws : List CheckedWish) (n : ℕ) (k : Kept) → IsCount k.time ws n → k.wishes ≡ ws → with_wishes i ws k ≡ with_all i (take n ws) (record k { wishes = drop n ws })
+wishes_are : (i : Inputs) (ws : List CheckedWish) (n : ℕ) (k : SessionState) → IsCount k.time ws n → k.wishes ≡ ws → with_wishes i ws k ≡ with_all i (take n ws) (record k { wishes = drop n ws })
 wishes_are i [] n k c e = subst (λ m. k ≡ with_all i (take m []) (record k { wishes = drop m [] })) (sym c) (ap (λ x. record k { wishes = x }) e)
 wishes_are i (w ∷ ws) zero k c e = ap (λ b. cond b (with_wishes i ws (with_wish i w (record k { wishes = ws }))) k) c ∙ ap (λ x. record k { wishes = x }) e
 wishes_are i (w ∷ ws) (suc n) k c e =
     let one = with_wish i w (record k { wishes = ws }) in
     let time : one.time ≡ k.time = wish_time i w (record k { wishes = ws }) in
-    let left : one.wishes ≡ ws = ap (λ (x : Kept). x.wishes) (wish_beside i w ws k) in
+    let left : one.wishes ≡ ws = ap (λ (x : SessionState). x.wishes) (wish_beside i w ws k) in
     ap (λ b. cond b (with_wishes i ws one) k) c.0
     ∙ (wishes_are i ws n one (subst (λ t. IsCount t ws n) (sym time) c.1) left
-    ∙ ap (with_all i (take n ws)) (ap (λ (x : Kept). record x { wishes = drop n ws }) (wish_beside i w ws k) ∙ sym (wish_beside i w (drop n ws) k)))
+    ∙ ap (with_all i (take n ws)) (ap (λ (x : SessionState). record x { wishes = drop n ws }) (wish_beside i w ws k) ∙ sym (wish_beside i w (drop n ws) k)))
 
 -- ---- what is known of new pairs
 
@@ -92,18 +92,18 @@ lasts_more i old new m =
     ap lasts_in m.is ∙ (map-append (λ (k : Kit). k.last) old m.more ∙ ap (λ l. lasts_in old ++ l) (new_lasts i m.more m.each ∙ ap (λ n. replicate n 0) (sym (many_new old m.more new m.is))))
 
 -- nothing was recorded of them
-pub hists_new : (i : Inputs) (more : List Kit) → AllByRecursion (IsNew i) more → map (λ (k : Kit). k.hist) more ≡ map (λ (s : Shown). hist_at i s []) (shown_in more)
+pub hists_new : (i : Inputs) (more : List Kit) → AllByRecursion (IsNew i) more → map (λ (k : Kit). k.hist) more ≡ map (λ (s : MetricFocusPair). hist_at i s []) (shown_in more)
 hists_new i [] a = refl
 hists_new i (k ∷ more) a = ap₂ (λ (x : Option Histogram) (xs : List (Option Histogram)). x ∷ xs) (a.0).hist (hists_new i more a.1)
 
-pub hists_more : (i : Inputs) (old new : List Kit) (m : IsMore i old new) → map (λ (k : Kit). k.hist) new ≡ map (λ (k : Kit). k.hist) old ++ map (λ (s : Shown). hist_at i s []) (shown_in m.more)
+pub hists_more : (i : Inputs) (old new : List Kit) (m : IsMore i old new) → map (λ (k : Kit). k.hist) new ≡ map (λ (k : Kit). k.hist) old ++ map (λ (s : MetricFocusPair). hist_at i s []) (shown_in m.more)
 hists_more i old new m =
     ap (map (λ (k : Kit). k.hist)) m.is ∙ (map-append (λ (k : Kit). k.hist) old m.more ∙ ap (λ l. map (λ (k : Kit). k.hist) old ++ l) (hists_new i m.more m.each))
 
 -- ---- an admission
 
 -- no work was done
-pub no_admission : (i : Inputs) (later : List CheckedWish) (t : Table) → t.worked ≡ false → AreLive t.machine.state.placer t.kits t.live → IsAdmission i later t t 0
+pub no_admission : (i : Inputs) (later : List CheckedWish) (t : Table) → t.worked ≡ false → AreLive t.machine.state.placer t.kits t.live → IsAfterAdmission i later t t 0
 unfolding with_admission
 no_admission i later t e live = record {
   looked = omega arith;
@@ -118,18 +118,18 @@ some_admitted : (i : Inputs) (later : List CheckedWish) (n : ℕ) (t new : Table
     → kept_of (drop n later) new ≡ with_tests i (with_all i (take n later) (kept_of (drop n later) t)) → kept_of (drop n later) (record new { worked = false }) ≡ with_admission i (kept_of later t)
 unfolding with_admission
 some_admitted i later n t new e c kept =
-    ap (λ (k : Kept). record k { worked = false }) (kept ∙ ap (with_tests i) (sym (wishes_are i later n (kept_of later t) c refl)))
+    ap (λ (k : SessionState). record k { worked = false }) (kept ∙ ap (with_tests i) (sym (wishes_are i later n (kept_of later t) c refl)))
     ∙ sym (ap (λ b. cond b (record (with_tests i (with_wishes i later (kept_of later t))) { worked = false }) (kept_of later t)) e)
 
 -- the wishes were looked at and the nodes taken, and the admission was done
 pub one_admission : (i : Inputs) (later : List CheckedWish) (n : ℕ) (t admitted new : Table) → t.worked ≡ true → IsCount t.time later n
     → ((ws : List CheckedWish) → kept_of ws admitted ≡ with_tests i (with_all i (take n later) (kept_of ws t))) → IsMore i t.kits admitted.kits → length admitted.kits ≤ length t.kits + length (take n later) + taken_at_once
-    → IsStill t admitted → AreLive admitted.machine.state.placer admitted.kits admitted.live → new ≡ record admitted { worked = false } → IsAdmission i later t new n
+    → IsStill t admitted → AreLive admitted.machine.state.placer admitted.kits admitted.live → new ≡ record admitted { worked = false } → IsAfterAdmission i later t new n
 one_admission i later n t admitted new worked count kept kits few still live is =
     let low = count_low t.time later n count in
     let len = take_many n later low in
     let stays : IsStill t (record admitted { worked = false }) = record { same = ap (λ (x : Table). record x { worked = false }) still.same; core = still.core; rules = still.rules } in
-    subst (λ (x : Table). IsAdmission i later t x n) (sym is) (record {
+    subst (λ (x : Table). IsAfterAdmission i later t x n) (sym is) (record {
       looked = low;
       kept = some_admitted i later n t admitted worked count (kept (drop n later));
       kits = kits;

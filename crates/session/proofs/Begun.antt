@@ -9,7 +9,7 @@ use Rattle.machine.specs.Laws.{IsProgram}
 use Rattle.session_spec.specs.Inputs.{Inputs, by_tick, first_wishes, later_wishes, put_by_tick}
 use Rattle.session_spec.specs.Opening.{wished, with_all}
 use Rattle.session_spec.specs.Tests.{taken_at_once, with_tests}
-use Rattle.session_spec.specs.States.{Kept}
+use Rattle.session_spec.specs.States.{SessionState}
 use Rattle.session_kits.specs.declared.kit.Kit.{Kit}
 use Rattle.session.specs.Given.{AreGiven, AreNarrow, IsWishOf}
 use Rattle.session_kits.specs.Kits.{AreLive}
@@ -124,7 +124,7 @@ pub wished_refused : (i : Inputs) (first t : Table) → first ≡ first_table i 
 unfolding wished first_search
 wished_refused i first t e kept =
     let all = kept (later_wishes i) ∙ ap (λ (x : Table). with_tests i (with_all i (first_wishes i) (kept_of (later_wishes i) x))) e in
-    ap (λ (k : Kept). k.refused) all ∙ tests_refused i (wished i)
+    ap (λ (k : SessionState). k.refused) all ∙ tests_refused i (wished i)
 
 -- out of memory
 pub fails : {A : Type 0} (i : Inputs) (r : Result A StartFault) → IsErrAnd r (λ fault. fault ≡ NoMemory) → IfErr r (IsStartFault i)

@@ -13,7 +13,7 @@ use Rattle.session_spec.specs.Opening.{with_all}
 use Rattle.session_kits.specs.Kits.{AreLive}
 use Rattle.session.specs.declared.candidate.Candidate.{Candidate}
 use Rattle.session.specs.Candidates.{AreOfWishes}
-use Rattle.session.specs.Outcomes.{IsStep}
+use Rattle.session.specs.Outcomes.{IsAdmissionStep}
 use Rattle.session.specs.Tables.{AreReady, Table, kept_of}
 use Rattle.session.proofs.Readiness.{drop_step, ready_behind, ready_in}
 use Rattle.session.proofs.Steps.{AreSteps, next_step, no_steps}
@@ -59,7 +59,7 @@ module _ (i : Inputs) (wishes : List CheckedWish) (plans : List Plan) (old : Tab
   pub ready_here : In (need_of plan) t.machine.ready
   ready_here = ready_in (need_of plan) rest t.machine.ready needed
 
-  pub next : (new : Table) → ((ws : List CheckedWish) → kept_of ws new ≡ with_wish i w (kept_of ws t)) → IsStep i plan t new → new.search ≡ t.search → Considering i wishes plans old (place + 1) new cs
+  pub next : (new : Table) → ((ws : List CheckedWish) → kept_of ws new ≡ with_wish i w (kept_of ws t)) → IsAdmissionStep i plan t new → new.search ≡ t.search → Considering i wishes plans old (place + 1) new cs
   next new kept step search = record {
     kept = λ ws. ap (with_all i (drop (place + 1) wishes)) (kept ws) ∙ (sym (ap (λ vs. with_all i vs (kept_of ws t)) (drop_step wishes place w is_w)) ∙ k.kept ws);
     steps = next_step i plan old t new place k.steps step;

@@ -12,13 +12,13 @@ use Rattle.w3_search.specs.Nodes.{waiting_of}
 use Rattle.w3_search.specs.Steps.{SearchData}
 use Rattle.session_spec.specs.Inputs.{Inputs}
 use Rattle.session_spec.specs.Searches.{rules_by, rules_of}
-use Rattle.session_spec.specs.States.{Kept}
+use Rattle.session_spec.specs.States.{SessionState}
 use Rattle.session_spec.specs.Tests.{taken_at_once, with_nodes, with_tests}
 use Rattle.session_spec.proofs.Queues.{taken_below}
 use Rattle.session_spec.proofs.Within.{harts_within, within}
-use Rattle.resource_tree.specs.Foci.{IsBelow, harts_of}
+use Rattle.resource_tree.specs.Foci.{IsBelow, harts_of_node}
 use Rattle.session.specs.declared.candidate.Candidate.{Candidate}
-use Rattle.session.specs.Contenders.{AreContenders, AreWithout, IsContender, IsNodeOf, MustWait, number_of, number_or_none, numbers_in, queue_of}
+use Rattle.session.specs.Contenders.{AreContenders, AreWithout, IsContender, IsNodeWithHarts, MustWait, candidate_number, number_or_none, numbers_in, queue_of}
 use Rattle.session.specs.Given.{AreGiven}
 use Rattle.session.specs.Tables.{AreReady}
 
@@ -38,14 +38,14 @@ in_queue i observed v n h = by (nat_lt (rules_of i).decl.observed observed) h
     by false k = k
 
 -- a node of the queue stands, and its focus names a hart that there is
-pub queued : (i : Inputs) (observed : ℕ) (v : SearchData) → AreGiven i → IsHistory v → v.rules ≡ rules_of i → (n : ℕ) → In n (queue_of i observed v) → IsNodeOf i v.nodes n
+pub queued : (i : Inputs) (observed : ℕ) (v : SearchData) → AreGiven i → IsHistory v → v.rules ≡ rules_of i → (n : ℕ) → In n (queue_of i observed v) → IsNodeWithHarts i v.nodes n
 queued i observed v g h rules n q =
     let x = there v.nodes n (taken_below taken_at_once v.nodes n (in_queue i observed v n q)) in
     let tree : v.rules.tree.harts ≡ i.tree.harts = ap (λ r. r.tree.harts) rules ∙ tree_is i.checked.search in
     let low : IsBelow i.tree.harts (x.0).focus.hart = subst (λ m. IsBelow m (x.0).focus.hart) tree (within v h n x.0 x.1) in
     let fits = harts_within i.tree.harts (x.0).focus.hart low in
     let same = g.harts in
-    (x.0, x.1, subst (λ m. (harts_of i.tree.harts (x.0).focus.hart).0 + (harts_of i.tree.harts (x.0).focus.hart).1 ≤ m) same fits)
+    (x.0, x.1, subst (λ m. (harts_of_node i.tree.harts (x.0).focus.hart).0 + (harts_of_node i.tree.harts (x.0).focus.hart).1 ≤ m) same fits)
   where
     tree_is : (o : _) → (rules_by o i).tree.harts ≡ i.tree.harts
     tree_is None = refl
@@ -92,7 +92,7 @@ module _ (i : Inputs) (ns : List Node) (force : ℕ) (queue : List ℕ) (old : L
   module _ (now : List Plan) (k n : ℕ) (cs : List Candidate) (s : Contending i ns force queue old now k cs) (at : slice_get queue k ≡ Some n) where
     pub next_taken : (new : List Plan) (ds : List Candidate) (p : Plan) (c : Candidate) → IsContender i ns p c → c.node ≡ Some n → new ≡ now ++ p ∷ [] → ds ≡ cs ++ c ∷ [] → Contending i ns force queue old new (k + 1) ds
     next_taken new ds p c one number e d =
-        let numbers : numbers_in ds ≡ numbers_in cs ++ n ∷ [] = ap numbers_in d ∙ (map-append number_of cs (c ∷ []) ∙ ap (λ x. numbers_in cs ++ number_or_none x ∷ []) number) in
+        let numbers : numbers_in ds ≡ numbers_in cs ++ n ∷ [] = ap numbers_in d ∙ (map-append candidate_number cs (c ∷ []) ∙ ap (λ x. numbers_in cs ++ number_or_none x ∷ []) number) in
         record {
           more = s.more ++ p ∷ [];
           is = e ∙ (ap (λ l. l ++ p ∷ []) s.is ∙ append_assoc old s.more (p ∷ []));
@@ -145,10 +145,10 @@ queue_few i observed v = by (nat_lt (rules_of i).decl.observed observed)
 
 pub contenders_few : (i : Inputs) (force observed : ℕ) (v : SearchData) (ps : List Plan) (cs : List Candidate) → AreContenders i v.nodes ps cs → AreWithout i v.nodes force (queue_of i observed v) (numbers_in cs) → length ps ≤ taken_at_once
 contenders_few i force observed v ps cs a w =
-    omega (arith, contenders_many i v.nodes ps cs a, length-map cs number_of, without_less i v.nodes force (queue_of i observed v) (numbers_in cs) w, queue_few i observed v)
+    omega (arith, contenders_many i v.nodes ps cs a, length-map cs candidate_number, without_less i v.nodes force (queue_of i observed v) (numbers_in cs) w, queue_few i observed v)
 
 -- what the search takes is its queue
-pub tests_are : (i : Inputs) (k : Kept) → with_tests i k ≡ with_nodes i (queue_of i k.observed k.search) k
+pub tests_are : (i : Inputs) (k : SessionState) → with_tests i k ≡ with_nodes i (queue_of i k.observed k.search) k
 unfolding with_tests
 tests_are i k = by (nat_lt (rules_of i).decl.observed k.observed)
   where

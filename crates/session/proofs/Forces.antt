@@ -10,7 +10,7 @@ use Rattle.instrument.specs.declared.number.State.{State}
 use Rattle.instrument.proofs.Numbers.{admissions_tell, admits}
 use Rattle.session_spec.specs.Inputs.{Inputs}
 use Rattle.session_spec.specs.Tests.{in_force, is_gone, words_of}
-use Rattle.session_spec.specs.Rosters.{AreBelow, IsRoster}
+use Rattle.session_spec.specs.Rosters.{AreBelow, AreNumbered}
 use Rattle.session_kits.specs.declared.kit.Kit.{Kit}
 use Rattle.session_kits.specs.Kits.{AreLiveFrom, is_gone_test}
 use Rattle.session_kits.proofs.Dropped.{shown_in}
@@ -91,7 +91,7 @@ force_push q [] k = let none : force_in q [] ≡ 0 = refl in omega arith
 force_push q (j ∷ kits) k = let ih = force_push q kits k in omega arith
 
 -- its cost is added
-pub force_more : (p : Placements) (plan : Plan) (cost : Option ℕ) (q : Placements) (kits : List Kit) (k : Kit) → IsRoster p → AreBelow p.count (shown_in kits) → admission p plan cost ≡ Ok q → k.shown.instrument.n ≡ p.count
+pub force_more : (p : Placements) (plan : Plan) (cost : Option ℕ) (q : Placements) (kits : List Kit) (k : Kit) → AreNumbered p → AreBelow p.count (shown_in kits) → admission p plan cost ≡ Ok q → k.shown.instrument.n ≡ p.count
     → force_in q (kits ++ k ∷ []) ≡ force_in p kits + k.cost
 force_more p plan cost q kits k r b e n =
     let placing = ap (state_of q) n ∙ (admissions_tell p plan cost q r.numbered e).state in

@@ -17,32 +17,32 @@ use Rattle.machine.specs.Replays.{owns}
 use Rattle.machine.specs.States.{quantum_turns}
 use Rattle.machine.specs.Turns.{is_runnable}
 use Rattle.mdl_check.specs.declared.checked.CheckedWish.{CheckedWish}
-use Rattle.session_spec.specs.States.{Kept, State}
+use Rattle.session_spec.specs.States.{SessionState, State}
 use Rattle.session_spec.specs.Inputs.{Inputs}
 use Rattle.session_spec.specs.Admission.{with_admission}
 use Rattle.session_spec.proofs.Going.{program_is}
-use Rattle.session_spec.specs.Work.{Halted, IsAllowed, closed, work}
+use Rattle.session_spec.specs.Work.{Halted, IsAllowed, final_state, after_quanta}
 use Rattle.session_spec.specs.Reads.{ticks_by}
 use Rattle.session_spec.proofs.Runs.{is_run}
 use Rattle.session_kits.specs.declared.kit.Kit.{Kit}
-use Rattle.session.specs.Kept.{IsKept, IsSoundKit}
+use Rattle.session.specs.Kept.{IsTableAfter, IsSoundKit}
 use Rattle.session_kits.specs.Kits.{HasFew, HasHarts}
 use Rattle.session.proofs.SoundKits.{more_sound}
 use Rattle.session.specs.Sessions.{state_at}
 use Rattle.session.specs.Contenders.{HasCost}
-use Rattle.session.specs.Tables.{CanSample, IsAdmission, Table, kept_of, lasts_in}
+use Rattle.session.specs.Tables.{CanSample, IsAfterAdmission, Table, kept_of, lasts_in}
 
 -- a session that wasn't closed
-pub going_state : (i : Inputs) (quanta : List Quantum) (over : Bool) → over ≡ false → state_at i quanta over ≡ work i quanta
-going_state i quanta over e = ap (λ b. cond b (closed i (work i quanta)) (work i quanta)) e
+pub going_state : (i : Inputs) (quanta : List Quantum) (over : Bool) → over ≡ false → state_at i quanta over ≡ after_quanta i quanta
+going_state i quanta over e = ap (λ b. cond b (final_state i (after_quanta i quanta)) (after_quanta i quanta)) e
 
-pub core_is : (i : Inputs) (quanta : List Quantum) (over : Bool) (later : List CheckedWish) (t : Table) → IsKept i quanta over later t → t.machine.state.core ≡ (state_at i quanta over).kept.machine.core
-core_is i quanta over later t k = ap (λ (x : Kept). x.machine.core) k.state.kept
+pub core_is : (i : Inputs) (quanta : List Quantum) (over : Bool) (later : List CheckedWish) (t : Table) → IsTableAfter i quanta over later t → t.machine.state.core ≡ (state_at i quanta over).kept.machine.core
+core_is i quanta over later t k = ap (λ (x : SessionState). x.machine.core) k.state.kept
 
-pub open_is : (i : Inputs) (quanta : List Quantum) (over : Bool) (later : List CheckedWish) (t : Table) (h : ℕ) → IsKept i quanta over later t → is_runnable t.machine.state.core h ≡ true → is_runnable (state_at i quanta over).kept.machine.core h ≡ true
+pub open_is : (i : Inputs) (quanta : List Quantum) (over : Bool) (later : List CheckedWish) (t : Table) (h : ℕ) → IsTableAfter i quanta over later t → is_runnable t.machine.state.core h ≡ true → is_runnable (state_at i quanta over).kept.machine.core h ≡ true
 open_is i quanta over later t h k e = ap (λ c. is_runnable c h) (sym (core_is i quanta over later t k)) ∙ e
 
-pub stuck : (i : Inputs) (quanta : List Quantum) (over : Bool) (later : List CheckedWish) (t : Table) (h : ℕ) → IsKept i quanta over later t → over ≡ false → is_runnable t.machine.state.core h ≡ false → Halted i quanta h
+pub stuck : (i : Inputs) (quanta : List Quantum) (over : Bool) (later : List CheckedWish) (t : Table) (h : ℕ) → IsTableAfter i quanta over later t → over ≡ false → is_runnable t.machine.state.core h ≡ false → Halted i quanta h
 unfolding Halted
 stuck i quanta over later t h k going e = inl (ap (λ (x : State). is_runnable x.kept.machine.core h) (sym (going_state i quanta over going)) ∙ (ap (λ c. is_runnable c h) (sym (core_is i quanta over later t k)) ∙ e))
 
@@ -56,13 +56,13 @@ not_halted i quanta over h going e l (inl stops) = true≢false (sym e ∙ (ap (
 not_halted i quanta over h going e l (inr many) = absurd (omega arith)
 
 -- no hart has more ticks than the budget
-pub budget_kept : (i : Inputs) (quanta : List Quantum) (over : Bool) (later : List CheckedWish) (t : Table) → IsKept i quanta over later t → KeepsBudget t.machine.state.core
+pub budget_kept : (i : Inputs) (quanta : List Quantum) (over : Bool) (later : List CheckedWish) (t : Table) → IsTableAfter i quanta over later t → KeepsBudget t.machine.state.core
 budget_kept i quanta over later t k =
     subst (λ (c : Core). KeepsBudget c) (sym (core_is i quanta over later t k)) (is_run i (state_at i quanta over) (lasts_in t.kits) k.state.sound).budget
 
 -- ---- what a call asks of a desk that is kept
 
-pub program_kept : (i : Inputs) (quanta : List Quantum) (over : Bool) (later : List CheckedWish) (t : Table) → IsKept i quanta over later t → t.machine.state.core.program ≡ program_of i.image
+pub program_kept : (i : Inputs) (quanta : List Quantum) (over : Bool) (later : List CheckedWish) (t : Table) → IsTableAfter i quanta over later t → t.machine.state.core.program ≡ program_of i.image
 program_kept i quanta over later t k =
     let tied = k.state.sound.tied in
     ap (λ (c : Core). c.program) (core_is i quanta over later t k) ∙ program_is i (state_at i quanta over).kept.machine (state_at i quanta over).owns (state_at i quanta over).kept.shown (lasts_in t.kits) tied
@@ -90,7 +90,7 @@ first_ticks : (more h n : ℕ) (image : Image) → ticks_in (map first_hart (har
 first_ticks zero h n image = refl
 first_ticks (suc more) h n image = let rest = first_ticks more (h + 1) n image in omega arith
 
-module _ (i : Inputs) (quanta : List Quantum) (over : Bool) (later : List CheckedWish) (t : Table) (k : IsKept i quanta over later t) where
+module _ (i : Inputs) (quanta : List Quantum) (over : Bool) (later : List CheckedWish) (t : Table) (k : IsTableAfter i quanta over later t) where
   marks_many : length t.marks ≡ i.settings.harts
   marks_many =
       let state = state_at i quanta over in
@@ -106,7 +106,7 @@ module _ (i : Inputs) (quanta : List Quantum) (over : Bool) (later : List Checke
       let core = ap (λ (c : Core). ticks_in c.harts) (core_is i quanta over later t k ∙ ran.core) in
       let own = ap (λ (l : List ℕ). length l) ran.owns in
       let time = ran.time in
-      let same = ap (λ (x : Kept). x.time) k.state.kept in
+      let same = ap (λ (x : SessionState). x.time) k.state.kept in
       omega arith
 
   pub can_sample : t.samples ≤ MAX_QUANTA → length quanta ≤ MAX_QUANTA → CanSample t
@@ -129,7 +129,7 @@ module _ (i : Inputs) (quanta : List Quantum) (over : Bool) (later : List Checke
       }
 
 -- after an admission
-module _ (i : Inputs) (quanta : List Quantum) (over : Bool) (later : List CheckedWish) (t admitted : Table) (looked : ℕ) (k : IsKept i quanta over later t) (few : length quanta < MAX_QUANTA) (a : IsAdmission i later t admitted looked) where
+module _ (i : Inputs) (quanta : List Quantum) (over : Bool) (later : List CheckedWish) (t admitted : Table) (looked : ℕ) (k : IsTableAfter i quanta over later t) (few : length quanta < MAX_QUANTA) (a : IsAfterAdmission i later t admitted looked) where
   pub can_sample_now : over ≡ false → CanSample admitted
   can_sample_now going =
       let most_quanta : length quanta ≤ MAX_QUANTA = omega (arith, few) in
@@ -163,7 +163,7 @@ module _ (i : Inputs) (quanta : List Quantum) (over : Bool) (later : List Checke
       → q.owns ≡ length (owns (quantum_turns q.turns q.hart admitted.machine.state.core) admitted.machine.state.core) → IsAllowed i (state_at i quanta over).kept q
   allowed_now q worker hart some most runs own =
       let kept : kept_of later t ≡ (state_at i quanta over).kept = k.state.kept in
-      let core : admitted.machine.state.core ≡ (with_admission i (state_at i quanta over).kept).machine.core = ap (λ (x : Kept). x.machine.core) a.kept ∙ ap (λ x. (with_admission i x).machine.core) kept in
+      let core : admitted.machine.state.core ≡ (with_admission i (state_at i quanta over).kept).machine.core = ap (λ (x : SessionState). x.machine.core) a.kept ∙ ap (λ x. (with_admission i x).machine.core) kept in
       record {
         worker = worker;
         hart = hart;

@@ -11,7 +11,7 @@ use Rattle.instrument.specs.Scenes.{Admits, admits}
 use Rattle.instrument.specs.declared.number.InstrumentNo.{InstrumentNo}
 use Rattle.instrument.specs.declared.number.Refused.{Refused}
 use Rattle.instrument.proofs.Numbers.{admits as admits_one}
-use Rattle.instrumented.specs.Instrumented.{Instrumented, done, in_scene, scene_of}
+use Rattle.instrumented.specs.Instrumented.{Instrumented, after_act, in_scene, scene_of}
 use Rattle.instrumented.proofs.Acts.{done_is}
 use Rattle.session_spec.specs.Inputs.{Inputs, planned}
 use Rattle.session_spec.specs.Tests.{words_by, words_of}
@@ -19,8 +19,8 @@ use Rattle.session_kits.specs.declared.kit.Kit.{Kit}
 use Rattle.session_kits.specs.Kits.{AreLive}
 use Rattle.session_kits.proofs.Live.{live_done, live_put}
 use Rattle.session.specs.declared.candidate.Candidate.{Candidate}
-use Rattle.session.specs.Candidates.{IsCandidate, IsPlanned, IsShort, new_kit}
-use Rattle.session.specs.Outcomes.{IsStep}
+use Rattle.session.specs.Candidates.{IsCandidate, IsPlanOrFault, IsShort, new_kit}
+use Rattle.session.specs.Outcomes.{IsAdmissionStep}
 use Rattle.session.specs.Tables.{IsMore, IsNew, IsStill, Table}
 use Rattle.session.proofs.Steps.{none_more, one_more}
 
@@ -29,7 +29,7 @@ use Rattle.session.proofs.Steps.{none_more, one_more}
 pub kit_new : (i : Inputs) (plan : Plan) (c : Candidate) (number : InstrumentNo) → IsCandidate i plan c → c.fault ≡ None → IsNew i (new_kit i plan c number)
 unfolding words_of
 kit_new i plan c number k none =
-    let p : (planned i c.metric c.focus ≡ Ok plan) × IsShort i plan = subst (λ o. IsPlanned i c.metric c.focus o plan) none k.planned in
+    let p : (planned i c.metric c.focus ≡ Ok plan) × IsShort i plan = subst (λ o. IsPlanOrFault i c.metric c.focus o plan) none k.planned in
     record {
       last = refl;
       hist = k.hist;
@@ -40,12 +40,12 @@ kit_new i plan c number k none =
     }
 
 -- a refused admission changes nothing
-pub refused_same : (m : Instrumented) (plan : Plan) (limit : Option ℕ) (refused : Refused) → admission m.placer plan limit ≡ Err refused → done (Admits plan limit) m ≡ m
+pub refused_same : (m : Instrumented) (plan : Plan) (limit : Option ℕ) (refused : Refused) → admission m.placer plan limit ≡ Err refused → after_act (Admits plan limit) m ≡ m
 refused_same m plan limit refused e = done_is (Admits plan limit) m ∙ ap (λ r. in_scene (admits plan r (scene_of m)).scene) e
 
 -- with an instrument more
 pub live_more : (m new : Instrumented) (plan : Plan) (limit : Option ℕ) (kits : List Kit) (live : List ℕ) (k : Kit) → AreLive m.placer kits live → admission m.placer plan limit ≡ Ok new.placer → k.shown.instrument.n ≡ m.placer.count
-    → new ≡ done (Admits plan limit) m → AreLive new.placer (kits ++ k ∷ []) (live ++ length kits ∷ [])
+    → new ≡ after_act (Admits plan limit) m → AreLive new.placer (kits ++ k ∷ []) (live ++ length kits ∷ [])
 live_more m new plan limit kits live k a e n is =
     let later : AreLive new.placer kits live = subst (λ (x : Instrumented). AreLive x.placer kits live) (sym is) (live_done m kits live a (Admits plan limit) tt) in
     live_put new.placer kits live k later (omega (arith, n, ((admits_one m.placer plan limit new.placer e).0).count))
@@ -60,9 +60,9 @@ still_of old new e core =
 
 -- there is one pair more
 pub step_more : (i : Inputs) (plan : Plan) (k : Kit) (view old new : Table) → view ≡ old → IsNew i k → new.kits ≡ view.kits ++ k ∷ [] → view.room ≤ new.room + 1 → new.machine.ready ≡ without (need_of plan) view.machine.ready
-    → AreLive new.machine.state.placer new.kits new.live → new ≡ record view { machine = new.machine; kits = new.kits; live = new.live; room = new.room } → new.machine.state.core ≡ view.machine.state.core → IsStep i plan old new
+    → AreLive new.machine.state.placer new.kits new.live → new ≡ record view { machine = new.machine; kits = new.kits; live = new.live; room = new.room } → new.machine.state.core ≡ view.machine.state.core → IsAdmissionStep i plan old new
 step_more i plan k view old new is n kits room ready live e core =
-    subst (λ (x : Table). IsStep i plan x new) is
+    subst (λ (x : Table). IsAdmissionStep i plan x new) is
     (record {
       kits = subst (IsMore i view.kits) (sym kits) (one_more i view.kits k n);
       few = omega (arith, ap (λ (l : List Kit). length l) kits, length-append view.kits (k ∷ []));
@@ -74,10 +74,10 @@ step_more i plan k view old new is n kits room ready live e core =
 
 -- there are the same pairs
 pub step_same : (i : Inputs) (plan : Plan) (view old new : Table) → view ≡ old → (new.machine.ready ≡ view.machine.ready) ⊎ (new.machine.ready ≡ without (need_of plan) view.machine.ready) → AreLive new.machine.state.placer view.kits view.live
-    → new ≡ record view { machine = new.machine } → new.machine.state.core ≡ view.machine.state.core → IsStep i plan old new
+    → new ≡ record view { machine = new.machine } → new.machine.state.core ≡ view.machine.state.core → IsAdmissionStep i plan old new
 step_same i plan view old new is ready live e core =
-    subst (λ (x : Table). IsStep i plan x new) is
-    (subst (IsStep i plan view) (sym e)
+    subst (λ (x : Table). IsAdmissionStep i plan x new) is
+    (subst (IsAdmissionStep i plan view) (sym e)
     (record {
       kits = none_more i view.kits;
       few = omega arith;

@@ -9,25 +9,25 @@ use Rattle.instrument.specs.Placements.{state_of}
 use Rattle.instrument.specs.Scenes.{Drops}
 use Rattle.instrument.specs.declared.number.InstrumentNo.{InstrumentNo}
 use Rattle.instrument.specs.declared.number.State.TheVariants.{Placing, Armed}
-use Rattle.instrumented.specs.Instrumented.{Instrumented, done}
+use Rattle.instrumented.specs.Instrumented.{Instrumented, after_act}
 use Rattle.session_spec.specs.Admission.{shown_now, shows, with_drop, with_show, with_wish}
-use Rattle.session_spec.specs.declared.data.Shown.{Shown}
+use Rattle.session_spec.specs.declared.data.MetricFocusPair.{MetricFocusPair}
 use Rattle.session_spec.proofs.Wishing.{stands_now}
 use Rattle.session_spec.specs.Inputs.{Inputs}
-use Rattle.session_spec.specs.States.{Kept}
+use Rattle.session_spec.specs.States.{SessionState}
 use Rattle.session_kits.specs.declared.kit.Kit.{Kit}
 use Rattle.session.specs.Tables.{Table, kept_of}
 
 -- ---- whether a pair is shown
 
 -- the pair that is found among those of the code
-pub record IsFound (k : Kept) (w : CheckedWish) (number : InstrumentNo) : Type 0 where
-  pub s : Shown
+pub record IsFound (k : SessionState) (w : CheckedWish) (number : InstrumentNo) : Type 0 where
+  pub s : MetricFocusPair
   pub is : shown_now k w ≡ Some s
   pub number_is : s.instrument ≡ number
 
 module _ (w : CheckedWish) (ws : List CheckedWish) (t : Table) where
-  abbrev k : Kept
+  abbrev k : SessionState
   k = kept_of ws t
 
   abbrev found : Option Kit
@@ -63,13 +63,13 @@ module _ (w : CheckedWish) (ws : List CheckedWish) (t : Table) where
 
 -- ---- a wish
 
-pub wish_shows : (i : Inputs) (w : CheckedWish) (k : Kept) (o : Option Shown) → w.show ≡ true → shown_now k w ≡ o → with_wish i w k ≡ with_show o i w k
+pub wish_shows : (i : Inputs) (w : CheckedWish) (k : SessionState) (o : Option MetricFocusPair) → w.show ≡ true → shown_now k w ≡ o → with_wish i w k ≡ with_show o i w k
 unfolding with_wish
 wish_shows i w k o e f = ap (λ b. cond b (with_show (shown_now k w) i w k) (with_drop (shown_now k w) w k)) e ∙ ap (λ x. with_show x i w k) f
 
-pub wish_drops : (i : Inputs) (w : CheckedWish) (k : Kept) (o : Option Shown) → w.show ≡ false → shown_now k w ≡ o → with_wish i w k ≡ with_drop o w k
+pub wish_drops : (i : Inputs) (w : CheckedWish) (k : SessionState) (o : Option MetricFocusPair) → w.show ≡ false → shown_now k w ≡ o → with_wish i w k ≡ with_drop o w k
 unfolding with_wish
 wish_drops i w k o e f = ap (λ b. cond b (with_show (shown_now k w) i w k) (with_drop (shown_now k w) w k)) e ∙ ap (λ x. with_drop x w k) f
 
-pub dropped_at : (w : CheckedWish) (k : Kept) (s : Shown) (number : InstrumentNo) (new : Instrumented) → s.instrument ≡ number → new ≡ done (Drops number.n) k.machine → record k { machine = new } ≡ with_drop (Some s) w k
-dropped_at w k s number new n d = ap (λ x. record k { machine = x }) d ∙ ap (λ (x : InstrumentNo). record k { machine = done (Drops x.n) k.machine }) (sym n)
+pub dropped_at : (w : CheckedWish) (k : SessionState) (s : MetricFocusPair) (number : InstrumentNo) (new : Instrumented) → s.instrument ≡ number → new ≡ after_act (Drops number.n) k.machine → record k { machine = new } ≡ with_drop (Some s) w k
+dropped_at w k s number new n d = ap (λ x. record k { machine = x }) d ∙ ap (λ (x : InstrumentNo). record k { machine = after_act (Drops x.n) k.machine }) (sym n)

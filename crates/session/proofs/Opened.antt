@@ -12,20 +12,20 @@ use Rattle.machine.specs.Events.{IsQuiet}
 use Rattle.instrument.specs.Scenes.{Hands}
 use Rattle.instrumented.specs.Instrumented.{Instrumented, repeated}
 use Rattle.rv_exec.specs.Start.{harts_from, start}
-use Rattle.session_spec.specs.declared.data.Shown.{Shown}
+use Rattle.session_spec.specs.declared.data.MetricFocusPair.{MetricFocusPair}
 use Rattle.session_spec.specs.Inputs.{Inputs, later_wishes}
 use Rattle.session_spec.specs.Due.{machine_armed, with_arms}
-use Rattle.session_spec.specs.Opening.{opened, with_agenda}
-use Rattle.session_spec.specs.States.{Kept}
-use Rattle.session_spec.specs.Work.{first_state, work}
+use Rattle.session_spec.specs.Opening.{opening_state, with_agenda}
+use Rattle.session_spec.specs.States.{SessionState}
+use Rattle.session_spec.specs.Work.{first_state, after_quanta}
 use Rattle.session_spec.specs.Readings.{lasts_armed, lasts_with}
-use Rattle.session_spec.specs.Reads.{IsSound}
+use Rattle.session_spec.specs.Reads.{IsSoundState}
 use Rattle.session_spec.proofs.Begins.{first_marks, first_quiet, opened_lasts, opens, picked}
 use Rattle.session_kits.specs.declared.kit.Kit.{Kit}
 use Rattle.session_kits.specs.Kits.{AreLive, HasHarts, kits_armed}
 use Rattle.session.specs.Given.{AreGiven}
 use Rattle.session.specs.Contenders.{first_search}
-use Rattle.session.specs.Kept.{IsKept, IsSoundKit, IsWished}
+use Rattle.session.specs.Kept.{IsTableAfter, IsSoundKit, IsWished}
 use Rattle.session.specs.Tables.{AreFolded, IsNew, IsTableOf, Table, kept_of, lasts_in, shown_in, table_armed, table_opened}
 use Rattle.session.proofs.Admitted.{lasts_more}
 use Rattle.session.proofs.SoundKits.{all_armed, all_of, armed_many, more_sound}
@@ -70,18 +70,18 @@ module _ (i : Inputs) (t : Table) (w : IsWished i t) where
 
   handed_kept : kept_of later handed ≡ with_agenda (picked i)
   unfolding with_agenda
-  handed_kept = ap (λ (k : Kept). with_agenda k) w.kept
+  handed_kept = ap (λ (k : SessionState). with_agenda k) w.kept
 
-  opened_is : kept_of later (table_armed handed) ≡ opened i
+  opened_is : kept_of later (table_armed handed) ≡ opening_state i
   opened_is = armed_is i later handed (all_of i t.samples t.kits wished_sound) ∙ ap with_arms handed_kept
 
   -- what was read last of each
   read_is : lasts_in (table_armed handed).kits ≡ opened_lasts i
   read_is =
-      let shown : shown_in t.kits ≡ (picked i).shown = ap (λ (k : Kept). k.shown) w.kept in
-      let lasts : lasts_in t.kits ≡ lasts_with (picked i).shown [] = lasts_more i [] t.kits w.kits ∙ ap (λ (s : List Shown). lasts_with s []) shown in
+      let shown : shown_in t.kits ≡ (picked i).shown = ap (λ (k : SessionState). k.shown) w.kept in
+      let lasts : lasts_in t.kits ≡ lasts_with (picked i).shown [] = lasts_more i [] t.kits w.kits ∙ ap (λ (s : List MetricFocusPair). lasts_with s []) shown in
       lasts_all i t.time handed.machine.state t.kits (all_of i t.samples t.kits wished_sound)
-      ∙ (ap (λ (x : Kept). lasts_armed i x.machine x.shown (lasts_in t.kits)) handed_kept ∙ ap (lasts_armed i (with_agenda (picked i)).machine (with_agenda (picked i)).shown) lasts)
+      ∙ (ap (λ (x : SessionState). lasts_armed i x.machine x.shown (lasts_in t.kits)) handed_kept ∙ ap (lasts_armed i (with_agenda (picked i)).machine (with_agenda (picked i)).shown) lasts)
 
   -- no pair has a sample
   none_folded : (kits : List Kit) → AllByRecursion (IsNew i) kits → AreFolded i kits (map {B = List Bin} (λ s. []) (shown_in kits))
@@ -97,7 +97,7 @@ module _ (i : Inputs) (t : Table) (w : IsWished i t) where
       let of = all_of i t.samples t.kits wished_sound in
       let new : AllByRecursion (IsNew i) t.kits = subst (λ (l : List Kit). AllByRecursion (IsNew i) l) (sym (w.kits).is) (w.kits).each in
       let none = none_left t.time handed.machine.state t.kits in
-      let all : map {B = List Bin} (λ s. []) (shown_in t.kits) ≡ (first_state i).recorded = sym none ∙ ap (λ (x : Kept). map {B = List Bin} (λ s. []) x.shown) opened_is in
+      let all : map {B = List Bin} (λ s. []) (shown_in t.kits) ≡ (first_state i).recorded = sym none ∙ ap (λ (x : SessionState). map {B = List Bin} (λ s. []) x.shown) opened_is in
       subst (AreFolded i (table_armed handed).kits) all (folded_armed i t.time handed.machine.state t.kits of (map {B = List Bin} (λ s. []) (shown_in t.kits)) (none_folded t.kits new))
 
   opened_state : IsTableOf i (first_state i) later (table_armed handed)
@@ -106,11 +106,11 @@ module _ (i : Inputs) (t : Table) (w : IsWished i t) where
     hists = hists_are;
     latest = ap (λ (x : Table). x.latest) (w.still).same;
     marks = ap (λ (x : Table). x.marks) (w.still).same ∙ sym (first_marks i);
-    sound = subst (IsSound i (first_state i)) (sym read_is) (opens i w.program w.good);
+    sound = subst (IsSoundState i (first_state i)) (sym read_is) (opens i w.program w.good);
   }
 
-  pub opened_kept : AreGiven i → (desk : Table) → desk ≡ table_opened t → length desk.machine.state.core.harts ≡ length t.machine.state.core.harts → AreLive desk.machine.state.placer desk.kits desk.live → IsKept i [] false later desk
-  unfolding work first_search
+  pub opened_kept : AreGiven i → (desk : Table) → desk ≡ table_opened t → length desk.machine.state.core.harts ≡ length t.machine.state.core.harts → AreLive desk.machine.state.placer desk.kits desk.live → IsTableAfter i [] false later desk
+  unfolding after_quanta first_search
   opened_kept g desk e harts live =
       let kits : desk.kits ≡ kits_armed t.time handed.machine.state t.kits = ap (λ (x : Table). x.kits) e in
       let many = ap (λ (l : List Kit). length l) kits ∙ armed_many handed.machine.state t.time t.kits in

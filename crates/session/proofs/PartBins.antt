@@ -5,10 +5,10 @@ use Rattle.fold_hist.specs.Bins.{bins_of, hist_of}
 use Rattle.fold_hist.specs.declared.bin.Bin.{Bin}
 use Rattle.machine.specs.Cores.{In}
 use Rattle.report.specs.declared.parts.ShownPart.{ShownPart}
-use Rattle.session_spec.specs.declared.data.Shown.{Shown}
+use Rattle.session_spec.specs.declared.data.MetricFocusPair.{MetricFocusPair}
 use Rattle.session_spec.specs.Inputs.{Inputs}
 use Rattle.session_spec.specs.States.{State}
-use Rattle.session_spec.specs.Work.{closed, work}
+use Rattle.session_spec.specs.Work.{final_state, after_quanta}
 use Rattle.session_spec.specs.Bins.{AreMeasured, AreRecorded}
 use Rattle.session_spec.proofs.Keeping.{bins_told}
 use Rattle.session_spec.proofs.Printing.{printed_told}
@@ -16,9 +16,9 @@ use Rattle.session.specs.Bins.{IsPartOf, PartsTold}
 use Rattle.session.specs.Parts.{shown_part, shown_parts}
 
 -- the wished pair of a part, and what was recorded for it
-record Source (i : Inputs) (xs : List Shown) (rs : List (List Bin)) (part : ShownPart) : Type 0 where
+record Source (i : Inputs) (xs : List MetricFocusPair) (rs : List (List Bin)) (part : ShownPart) : Type 0 where
   n : ℕ
-  x : Shown
+  x : MetricFocusPair
   r : List Bin
   listed : slice_get xs n ≡ Some x
   shown : In x xs
@@ -26,10 +26,10 @@ record Source (i : Inputs) (xs : List Shown) (rs : List (List Bin)) (part : Show
   wished : x.node ≡ None
   is : part ≡ shown_part i x (hist_of i.settings.bins r)
 
-source_behind : (i : Inputs) (y : Shown) (xs : List Shown) (q : List Bin) (rs : List (List Bin)) (part : ShownPart) → Source i xs rs part → Source i (y ∷ xs) (q ∷ rs) part
+source_behind : (i : Inputs) (y : MetricFocusPair) (xs : List MetricFocusPair) (q : List Bin) (rs : List (List Bin)) (part : ShownPart) → Source i xs rs part → Source i (y ∷ xs) (q ∷ rs) part
 source_behind i y xs q rs part s = record { n = suc s.n; x = s.x; r = s.r; listed = s.listed; shown = inr s.shown; recorded = s.recorded; wished = s.wished; is = s.is }
 
-source : (i : Inputs) (xs : List Shown) (rs : List (List Bin)) (part : ShownPart) → In part (shown_parts i xs rs) → Source i xs rs part
+source : (i : Inputs) (xs : List MetricFocusPair) (rs : List (List Bin)) (part : ShownPart) → In part (shown_parts i xs rs) → Source i xs rs part
 source i [] rs part h = absurd h
 source i (x ∷ xs) [] part h = absurd h
 source i (x ∷ xs) (r ∷ rs) part h = by x.node refl h (λ g. source i xs rs part g)
@@ -64,10 +64,10 @@ part_of i s told part z =
 pub parts_told : PartsTold
 unfolding part_of
 parts_told = record {
-  works = λ i quanta wide part h. let s = work i quanta in part_of i s (bins_told.works i quanta wide) part (source i s.kept.shown s.recorded part h);
-  closes = λ i quanta wide part h. let s = closed i (work i quanta) in part_of i s (bins_told.closes i quanta wide) part (source i s.kept.shown s.recorded part h);
+  works = λ i quanta wide part h. let s = after_quanta i quanta in part_of i s (bins_told.works i quanta wide) part (source i s.kept.shown s.recorded part h);
+  closes = λ i quanta wide part h. let s = final_state i (after_quanta i quanta) in part_of i s (bins_told.closes i quanta wide) part (source i s.kept.shown s.recorded part h);
   whole = λ i quanta wide p good first part h.
-      let s = closed i (work i quanta) in
+      let s = final_state i (after_quanta i quanta) in
       let z = source i s.kept.shown s.recorded part h in
       let w = printed_told i quanta wide p good first z.n z.x z.r z.listed z.recorded z.wished in
       record { part_of = part_of i s (bins_told.closes i quanta wide) part z; armed = ap (λ (q : ShownPart). q.from) z.is ∙ w.armed; to = w.to };

@@ -11,8 +11,8 @@ use Rattle.prim_code.specs.Counts.{predicted}
 use Rattle.prim_code.specs.Fitting.{AreStmtsOf, IsMeasurable}
 use Rattle.mdl_ast.specs.declared.metric.Metric.{Metric}
 use Rattle.mdl_plan.specs.Fitting.{most_words}
-use Rattle.mdl_plan.specs.Plans.{Answers, IsPlanOver, IsSiteOf, plan_of}
-use Rattle.mdl_plan.specs.Starts.{started, started_if}
+use Rattle.mdl_plan.specs.Plans.{IsPlanOr, IsPlanOver, IsSiteOf, plan_of}
+use Rattle.mdl_plan.specs.Starts.{started_plan, started_if}
 use Rattle.mdl_plan.specs.declared.fault.PlanError.{PlanError}
 use Rattle.mdl_plan.specs.declared.fault.PlanFault.TheVariants.{TooManySites}
 use Rattle.mdl_plan.proofs.Starting.{started_answers, started_measurable, started_over}
@@ -41,9 +41,9 @@ short_plan i plan g over cost m =
       armable = armable_plan plan m;
     }
 
-pub short_started : (i : Inputs) (start : Start) (plan : Plan) → AreGiven i → IsPlanOver i.points plan → predicted plan ≤ most_words → IsMeasurable plan → IsShort i (started start plan)
+pub short_started : (i : Inputs) (start : Start) (plan : Plan) → AreGiven i → IsPlanOver i.points plan → predicted plan ≤ most_words → IsMeasurable plan → IsShort i (started_plan start plan)
 short_started i Warm plan g over cost m = short_plan i plan g over cost m
-short_started i Cold plan g over cost m = short_plan i (started Cold plan) g (started_over Cold i.points plan over) cost (started_measurable Cold plan m)
+short_started i Cold plan g over cost m = short_plan i (started_plan Cold plan) g (started_over Cold i.points plan over) cost (started_measurable Cold plan m)
 
 there : (ms : List Metric) (n : ℕ) → n < length ms → (m : Metric) × (slice_get ms n ≡ Some m)
 there [] n l = absurd (omega arith)
@@ -57,11 +57,11 @@ none_planned i metric focus l = ap (λ o. plan_by o i focus) (slice_get_past i.c
 
 -- the plan that is due: it starts as the settings say
 pub answers_planned : (i : Inputs) (metric : ℕ) (focus : Focus) (r : Result Plan PlanError) → metric < length i.checked.metrics
-    → ((m : Metric) → slice_get i.checked.metrics metric ≡ Some m → Answers r (plan_of i.checked.constraints m focus i.tree i.procs i.points)) → Answers (started_if i.settings.start r) (planned i metric focus)
+    → ((m : Metric) → slice_get i.checked.metrics metric ≡ Some m → IsPlanOr r (plan_of i.checked.constraints m focus i.tree i.procs i.points)) → IsPlanOr (started_if i.settings.start r) (planned i metric focus)
 unfolding planned
 answers_planned i metric focus r l f = by (slice_get i.checked.metrics metric) (there i.checked.metrics metric l) f
   where
-    by : (o : Option Metric) → (m : Metric) × (o ≡ Some m) → ((m : Metric) → o ≡ Some m → Answers r (plan_of i.checked.constraints m focus i.tree i.procs i.points)) → Answers (started_if i.settings.start r) (plan_by o i focus)
+    by : (o : Option Metric) → (m : Metric) × (o ≡ Some m) → ((m : Metric) → o ≡ Some m → IsPlanOr r (plan_of i.checked.constraints m focus i.tree i.procs i.points)) → IsPlanOr (started_if i.settings.start r) (plan_by o i focus)
     by None k f = absurd (let no = k.1 in cc)
     by (Some m) k f = started_answers i.settings.start r (plan_of i.checked.constraints m focus i.tree i.procs i.points) (f m refl)
 

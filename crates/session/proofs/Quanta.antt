@@ -11,30 +11,30 @@ use Rattle.machine.specs.Cores.{In, Core}
 use Rattle.machine.specs.Events.{IsQuiet}
 use Rattle.session_spec.specs.Inputs.{Inputs}
 use Rattle.session_spec.specs.States.{State}
-use Rattle.session_spec.specs.Work.{AreAllowed, AreAllowedFrom, IsAllowed, closed, first_state, tend, work, work_from}
+use Rattle.session_spec.specs.Work.{AreAllowed, AreAllowedFrom, IsAllowed, final_state, first_state, after_quantum, after_quanta, after_quanta_from}
 use Rattle.session_spec.proofs.RulesStay.{step_rules}
 use Rattle.session_kits.specs.Kits.{AreLive, kit_sampled}
-use Rattle.session.specs.Kept.{IsKept, IsSoundKit}
-use Rattle.session.specs.Tables.{IsAdmission, IsTableOf, Table, table_begun, table_closed, table_ended, table_freed, table_last, table_quiet, table_sampled, table_tended, table_worked}
+use Rattle.session.specs.Kept.{IsTableAfter, IsSoundKit}
+use Rattle.session.specs.Tables.{IsAfterAdmission, IsTableOf, Table, table_begun, table_closed, table_ended, table_freed, table_last, table_quiet, table_sampled, table_tended, table_worked}
 use Rattle.session.proofs.SoundKits.{all_armed, all_sampled, armed_many, more_sound}
 use Rattle.session.proofs.Tabled.{admitted_table, closed_table, tended_table}
 
 -- ---- lists of quanta
 
-work_on : (i : Inputs) (quanta : List Quantum) (q : Quantum) (s : State) → work_from i (quanta ++ q ∷ []) s ≡ tend i q.hart q.turns (work_from i quanta s)
+work_on : (i : Inputs) (quanta : List Quantum) (q : Quantum) (s : State) → after_quanta_from i (quanta ++ q ∷ []) s ≡ after_quantum i q.hart q.turns (after_quanta_from i quanta s)
 work_on i [] q s = refl
-work_on i (p ∷ quanta) q s = work_on i quanta q (tend i p.hart p.turns s)
+work_on i (p ∷ quanta) q s = work_on i quanta q (after_quantum i p.hart p.turns s)
 
-pub one_work : (i : Inputs) (quanta : List Quantum) (q : Quantum) → work i (quanta ++ q ∷ []) ≡ tend i q.hart q.turns (work i quanta)
-unfolding work
+pub one_work : (i : Inputs) (quanta : List Quantum) (q : Quantum) → after_quanta i (quanta ++ q ∷ []) ≡ after_quantum i q.hart q.turns (after_quanta i quanta)
+unfolding after_quanta
 one_work i quanta q = work_on i quanta q (first_state i)
 
-allowed_on : (i : Inputs) (quanta : List Quantum) (q : Quantum) (s : State) → AreAllowedFrom i s quanta → IsAllowed i (work_from i quanta s).kept q → AreAllowedFrom i s (quanta ++ q ∷ [])
+allowed_on : (i : Inputs) (quanta : List Quantum) (q : Quantum) (s : State) → AreAllowedFrom i s quanta → IsAllowed i (after_quanta_from i quanta s).kept q → AreAllowedFrom i s (quanta ++ q ∷ [])
 allowed_on i [] q s a k = (k, tt)
-allowed_on i (p ∷ quanta) q s a k = (a.0, allowed_on i quanta q (tend i p.hart p.turns s) a.1 k)
+allowed_on i (p ∷ quanta) q s a k = (a.0, allowed_on i quanta q (after_quantum i p.hart p.turns s) a.1 k)
 
-pub one_allowed : (i : Inputs) (quanta : List Quantum) (q : Quantum) → AreAllowed i quanta → length quanta < MAX_QUANTA → IsAllowed i (work i quanta).kept q → AreAllowed i (quanta ++ q ∷ [])
-unfolding work
+pub one_allowed : (i : Inputs) (quanta : List Quantum) (q : Quantum) → AreAllowed i quanta → length quanta < MAX_QUANTA → IsAllowed i (after_quanta i quanta).kept q → AreAllowed i (quanta ++ q ∷ [])
+unfolding after_quanta
 one_allowed i quanta q a few k =
     let l = length-append quanta (q ∷ []) in
     let one : length (q ∷ []) ≡ 1 = refl in
@@ -78,17 +78,17 @@ behind i h n t a = by (nat_le (table_begun h n t).due (table_begun h n t).time)
         }
     by false = record { kits = a; many = refl; samples = omega arith; places = refl; rules = refl }
 
-pub quantum_kept : (i : Inputs) (quanta : List Quantum) (later : List CheckedWish) (t admitted new : Table) (looked : ℕ) (q : Quantum) → IsKept i quanta false later t → length quanta < MAX_QUANTA
-    → IsAdmission i later t admitted looked → new ≡ table_tended i.settings.width q.hart q.turns admitted → length new.machine.state.core.harts ≡ length admitted.machine.state.core.harts → new.time < admitted.time + 2 ^ 33
-    → new.idle ≤ admitted.idle + q.turns → new.last < new.due → AreLive new.machine.state.placer new.kits new.live → IsAllowed i (work i quanta).kept q → IsKept i (quanta ++ q ∷ []) false (drop looked later) new
+pub quantum_kept : (i : Inputs) (quanta : List Quantum) (later : List CheckedWish) (t admitted new : Table) (looked : ℕ) (q : Quantum) → IsTableAfter i quanta false later t → length quanta < MAX_QUANTA
+    → IsAfterAdmission i later t admitted looked → new ≡ table_tended i.settings.width q.hart q.turns admitted → length new.machine.state.core.harts ≡ length admitted.machine.state.core.harts → new.time < admitted.time + 2 ^ 33
+    → new.idle ≤ admitted.idle + q.turns → new.last < new.due → AreLive new.machine.state.placer new.kits new.live → IsAllowed i (after_quanta i quanta).kept q → IsTableAfter i (quanta ++ q ∷ []) false (drop looked later) new
 quantum_kept i quanta later t admitted new looked q k few a is harts time idle soon live allowed =
     let stays = ap (λ (x : Table). x.samples) (a.stays).same in
     let kits : AllByRecursion (IsSoundKit i admitted.samples) admitted.kits = subst (λ m. AllByRecursion (IsSoundKit i m) admitted.kits) (sym stays) (more_sound i t.samples t.kits admitted.kits k.kits a.kits) in
     let settings = k.given.settings in
     let low = settings.budget.1 in
     let some : 1 ≤ i.settings.bins = let bins = settings.bins.0 in omega arith in
-    let first = admitted_table i later (drop looked later) (work i quanta) t admitted k.state k.good a.kept a.kits (ap (λ (x : Table). x.latest) (a.stays).same) (ap (λ (x : Table). x.marks) (a.stays).same) in
-    let after = tended_table i low some (drop looked later) (work i quanta) admitted first kits q.hart q.turns in
+    let first = admitted_table i later (drop looked later) (after_quanta i quanta) t admitted k.state k.good a.kept a.kits (ap (λ (x : Table). x.latest) (a.stays).same) (ap (λ (x : Table). x.marks) (a.stays).same) in
+    let after = tended_table i low some (drop looked later) (after_quanta i quanta) admitted first kits q.hart q.turns in
     let b = behind i q.hart q.turns admitted kits in
     let is_many = ap (λ (x : Table). length x.kits) is in
     let is_samples = ap (λ (x : Table). x.samples) is in
@@ -109,7 +109,7 @@ quantum_kept i quanta later t admitted new looked q k few a is harts time idle s
       given = k.given;
       good = k.good;
       allowed = one_allowed i quanta q k.allowed few allowed;
-      state = subst (λ (x : Table). IsTableOf i (work i (quanta ++ q ∷ [])) (drop looked later) x) (sym is)
+      state = subst (λ (x : Table). IsTableOf i (after_quanta i (quanta ++ q ∷ [])) (drop looked later) x) (sym is)
           (subst (λ (x : State). IsTableOf i x (drop looked later) (table_tended i.settings.width q.hart q.turns admitted)) (sym (one_work i quanta q)) after);
       live = live;
       kits = subst (λ (x : Table). AllByRecursion (IsSoundKit i x.samples) x.kits) (sym is) b.kits;
@@ -144,11 +144,11 @@ end_behind i t a = by (nat_lt (table_quiet t).last (table_quiet t).time)
         }
     by false = record { kits = a; many = refl; samples = omega arith; places = refl; rules = refl }
 
-pub end_kept : (i : Inputs) (quanta : List Quantum) (later : List CheckedWish) (t new : Table) → IsKept i quanta false later t → new ≡ table_closed t → IsQuiet new.machine.state.core
-    → length new.machine.state.core.harts ≡ length t.machine.state.core.harts → new.time < t.time + 2 ^ 32 → AreLive new.machine.state.placer new.kits new.live → IsKept i quanta true later new
+pub end_kept : (i : Inputs) (quanta : List Quantum) (later : List CheckedWish) (t new : Table) → IsTableAfter i quanta false later t → new ≡ table_closed t → IsQuiet new.machine.state.core
+    → length new.machine.state.core.harts ≡ length t.machine.state.core.harts → new.time < t.time + 2 ^ 32 → AreLive new.machine.state.placer new.kits new.live → IsTableAfter i quanta true later new
 end_kept i quanta later t new k is quiet harts time live =
     let settings = k.given.settings in
-    let after = closed_table i settings.budget.1 (let bins = settings.bins.0 in omega arith) later (work i quanta) t k.state k.kits in
+    let after = closed_table i settings.budget.1 (let bins = settings.bins.0 in omega arith) later (after_quanta i quanta) t k.state k.kits in
     let b = end_behind i t k.kits in
     let is_many = ap (λ (x : Table). length x.kits) is in
     let is_samples = ap (λ (x : Table). x.samples) is in
@@ -161,7 +161,7 @@ end_kept i quanta later t new k is quiet harts time live =
       given = k.given;
       good = k.good;
       allowed = k.allowed;
-      state = subst (IsTableOf i (closed i (work i quanta)) later) (sym is) after;
+      state = subst (IsTableOf i (final_state i (after_quanta i quanta)) later) (sym is) after;
       live = live;
       kits = subst (λ (x : Table). AllByRecursion (IsSoundKit i x.samples) x.kits) (sym is) b.kits;
       many = omega arith;

@@ -14,8 +14,8 @@ use Rattle.machine.specs.Cores.{Core}
 use Rattle.machine.specs.Same.{SameHart, SameProgram}
 use Rattle.report.specs.declared.parts.ShownPart.{ShownPart}
 use Rattle.session_spec.specs.Inputs.{Inputs}
-use Rattle.session_spec.specs.declared.data.Shown.{Shown}
-use Rattle.session_spec.specs.States.{Kept, State}
+use Rattle.session_spec.specs.declared.data.MetricFocusPair.{MetricFocusPair}
+use Rattle.session_spec.specs.States.{SessionState, State}
 use Rattle.session_spec.proofs.Runs.{is_run}
 use Rattle.session_kits.specs.declared.kit.Kit.{Kit}
 use Rattle.report.proofs.HartEnds.{same_end}
@@ -56,7 +56,7 @@ same_parts budget c (x ∷ xs) (y ∷ ys) many same =
 -- ---- what is shown
 
 -- those that were wished are those that have a histogram
-same_one : (i : Inputs) (x : Shown) (r : List Bin) (b : Bool) → parts_by i x (cond b (Some (hist_of i.settings.bins r)) None) ≡ cond {A = List ShownPart} b (shown_part i x (hist_of i.settings.bins r) ∷ []) []
+same_one : (i : Inputs) (x : MetricFocusPair) (r : List Bin) (b : Bool) → parts_by i x (cond b (Some (hist_of i.settings.bins r)) None) ≡ cond {A = List ShownPart} b (shown_part i x (hist_of i.settings.bins r) ∷ []) []
 same_one i x r true = refl
 same_one i x r false = refl
 
@@ -89,20 +89,20 @@ module _ (i : Inputs) (s : State) (later : List CheckedWish) (t : Table) (k : Is
   same : SameProgram t.machine.state.core (program_of_run i s.owns)
   same =
       let ran = is_run i s (lasts_in t.kits) k.sound in
-      subst (λ c. SameProgram c (program_of_run i s.owns)) (sym (ap (λ (x : Kept). x.machine.core) k.kept)) ran.same
+      subst (λ c. SameProgram c (program_of_run i s.owns)) (sym (ap (λ (x : SessionState). x.machine.core) k.kept)) ran.same
 
   harts : map (hart_seen i.settings.budget t.machine.state.core) t.machine.state.core.harts ≡ map (hart_part i.settings.budget) (program_of_run i s.owns).harts
   harts = same_parts i.settings.budget t.machine.state.core t.machine.state.core.harts (program_of_run i s.owns).harts same.many same.harts
 
   shown : kit_parts i t.kits ≡ shown_parts i s.kept.shown s.recorded
-  shown = same_shown i t.kits s.recorded k.hists ∙ ap (λ (x : Kept). shown_parts i x.shown s.recorded) k.kept
+  shown = same_shown i t.kits s.recorded k.hists ∙ ap (λ (x : SessionState). shown_parts i x.shown s.recorded) k.kept
 
   pub parts_are : table_parts i t ≡ parts_of i s
   parts_are =
       let held = table_parts i t in
       let all = parts_of i s in
       ap (λ hs. record held { harts = hs }) harts
-      ∙ ap (λ (x : Kept). record held { harts = all.harts; samples = x.samples }) k.kept
+      ∙ ap (λ (x : SessionState). record held { harts = all.harts; samples = x.samples }) k.kept
       ∙ ap (λ (p : Prog). record held { harts = all.harts; samples = all.samples; output = p.out }) same.prog
-      ∙ ap (λ (x : Kept). record all { refused = map (refused_part i) x.refused; shown = held.shown; search = search_part i i.checked.search x.search.nodes }) k.kept
+      ∙ ap (λ (x : SessionState). record all { refused = map (refused_part i) x.refused; shown = held.shown; search = search_part i i.checked.search x.search.nodes }) k.kept
       ∙ ap (λ ps. record all { shown = ps }) shown

@@ -9,18 +9,18 @@ use Rattle.machine.specs.Quanta.{ticks_in}
 use Rattle.machine.specs.Replays.{owns, replay}
 use Rattle.machine.proofs.Quanta.{time_goes_on}
 use Rattle.instrument.specs.Scenes.{Happens, Hands}
-use Rattle.instrumented.specs.Instrumented.{Instrumented, done, taken}
+use Rattle.instrumented.specs.Instrumented.{Instrumented, after_act, after_turns}
 use Rattle.instrumented.proofs.Acts.{done_is}
 use Rattle.session_kits.specs.Kits.{HasHarts}
 use Rattle.session_kits.proofs.Live.{live_repeated, live_taken}
 use Rattle.session.specs.Tables.{CanSample, Table, table_handed, table_taken}
 
-core_taken : (es : List Event) (m : Instrumented) → (taken es m).core ≡ replay es m.core
+core_taken : (es : List Event) (m : Instrumented) → (after_turns es m).core ≡ replay es m.core
 core_taken [] m = refl
-core_taken (e ∷ es) m = core_taken es (done (Happens e) m) ∙ ap (λ (d : Instrumented). replay es d.core) (done_is (Happens e) m)
+core_taken (e ∷ es) m = core_taken es (after_act (Happens e) m) ∙ ap (λ (d : Instrumented). replay es d.core) (done_is (Happens e) m)
 
 -- the ticks of turns are time
-pub ticks_taken : (es : List Event) (m : Instrumented) → ticks_in (taken es m).core.harts ≡ ticks_in m.core.harts + length (owns es m.core)
+pub ticks_taken : (es : List Event) (m : Instrumented) → ticks_in (after_turns es m).core.harts ≡ ticks_in m.core.harts + length (owns es m.core)
 ticks_taken es m = ap (λ (c : Core). ticks_in c.harts) (core_taken es m) ∙ time_goes_on es m.core
 
 module _ (t new : Table) (c : CanSample t) where

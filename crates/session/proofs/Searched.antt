@@ -4,17 +4,17 @@ use Rattle.std.specs.Prelude.{Bool, List, true, false}
 use Rattle.pn_types.specs.declared.quantum.Quantum.{Quantum}
 use Rattle.mdl_ast.specs.declared.items.SearchDecl.{SearchDecl}
 use Rattle.mdl_check.specs.declared.checked.CheckedWish.{CheckedWish}
-use Rattle.session_spec.specs.Costs.{AreWithin, IsWithin}
+use Rattle.session_spec.specs.Costs.{AreWithin, IsWithinLimit}
 use Rattle.session_spec.specs.Laws.{AreBarred}
 use Rattle.session_spec.proofs.Barring.{bars_told}
 use Rattle.session_spec.proofs.Moments.{costs_stay}
 use Rattle.session_spec.proofs.Nodes.{verdicts_told}
 use Rattle.session_spec.specs.Inputs.{Inputs}
 use Rattle.session_spec.specs.Searches.{rules_by, rules_of}
-use Rattle.session_spec.specs.States.{Kept, State}
+use Rattle.session_spec.specs.States.{SessionState, State}
 use Rattle.session_spec.specs.Told.{AreEnded, AreJudged}
 use Rattle.session.specs.Given.{HasWindow}
-use Rattle.session.specs.Kept.{IsKept}
+use Rattle.session.specs.Kept.{IsTableAfter}
 use Rattle.session.specs.Sessions.{state_at}
 use Rattle.session.specs.Tables.{Table}
 use Rattle.session.proofs.Ends.{at_the_end, before_it, of_both}
@@ -23,7 +23,7 @@ some_window : (i : Inputs) (o : Option SearchDecl) → HasWindow o → 1 ≤ (ru
 some_window i None w = omega arith
 some_window i (Some decl) w = w
 
-module _ (i : Inputs) (quanta : List Quantum) (over : Bool) (later : List CheckedWish) (t : Table) (k : IsKept i quanta over later t) where
+module _ (i : Inputs) (quanta : List Quantum) (over : Bool) (later : List CheckedWish) (t : Table) (k : IsTableAfter i quanta over later t) where
   window : 1 ≤ (rules_of i).decl.window
   window = some_window i i.checked.search k.given.window
 
@@ -32,7 +32,7 @@ module _ (i : Inputs) (quanta : List Quantum) (over : Bool) (later : List Checke
 
   early : (state_at i quanta over).kept.time < 2 ^ 64
   early =
-      let time = ap (λ (x : Kept). x.time) k.state.kept in
+      let time = ap (λ (x : SessionState). x.time) k.state.kept in
       let most = k.time in
       let few = k.allowed.few in
       omega arith
@@ -51,8 +51,8 @@ module _ (i : Inputs) (quanta : List Quantum) (over : Bool) where
   pub all_barred : AreBarred i quanta (state_at i quanta over)
   all_barred = of_both i quanta over (AreBarred i quanta) (bars_told.closes i quanta) (bars_told.works i quanta)
 
-  pub all_within : IsWithin i (state_at i quanta over).kept
-  all_within = of_both i quanta over (λ (x : State). IsWithin i x.kept) (costs_stay.closes i quanta) (costs_stay.works i quanta)
+  pub all_within : IsWithinLimit i (state_at i quanta over).kept
+  all_within = of_both i quanta over (λ (x : State). IsWithinLimit i x.kept) (costs_stay.closes i quanta) (costs_stay.works i quanta)
 
   pub all_moments : over ≡ false → AreWithin i (state_at i quanta over)
   all_moments e = subst (AreWithin i) (sym (before_it i quanta over e)) (costs_stay.moments i quanta)

@@ -9,11 +9,11 @@ use Rattle.fold_hist.specs.Steps.{pushed}
 use Rattle.fold_hist.proofs.Pushes.{pushed_is}
 use Rattle.machine.specs.Measures.{difference}
 use Rattle.mdl_check.specs.declared.checked.CheckedWish.{CheckedWish}
-use Rattle.resource_tree.specs.Foci.{harts_of as harts_at}
+use Rattle.resource_tree.specs.Foci.{harts_of_node as harts_at}
 use Rattle.instrument.specs.Placements.{instrument_at}
 use Rattle.instrumented.specs.Instrumented.{Instrumented}
-use Rattle.session_spec.specs.declared.data.Latest.{Latest}
-use Rattle.session_spec.specs.declared.data.Shown.{Shown}
+use Rattle.session_spec.specs.declared.data.LatestSample.{LatestSample}
+use Rattle.session_spec.specs.declared.data.MetricFocusPair.{MetricFocusPair}
 use Rattle.session_spec.specs.Inputs.{Inputs}
 use Rattle.session_spec.specs.Due.{all_armed, arm_all, is_armed, is_ready, machine_armed, place_behind, sampled_to, with_arms, with_frees, with_next, with_samples}
 use Rattle.session_spec.specs.Turns.{with_entries, with_hart, with_quiet}
@@ -94,12 +94,12 @@ module _ (i : Inputs) (m : Instrumented) where
             ∙ (ap (option_map (λ (h : Histogram). pushed h bin_read)) e ∙ one_more some r (is_none k.shown.node))
         by false = e
 
-    abbrev latest_of : ℕ → ℕ → List Latest
+    abbrev latest_of : ℕ → ℕ → List LatestSample
     latest_of place r = record { shown = place; from = k.shown.from; to = time; sum = difference k.last r } ∷ []
 
-    latest_one : (place : ℕ) → kit_latest m time place k ≡ cond {A = List Latest} (is_none k.shown.node && is_armed m.placer k.shown) (latest_of place (read_now i m k.shown)) []
+    latest_one : (place : ℕ) → kit_latest m time place k ≡ cond {A = List LatestSample} (is_none k.shown.node && is_armed m.placer k.shown) (latest_of place (read_now i m k.shown)) []
     unfolding kit_latest
-    latest_one place = ap (λ r. cond {A = List Latest} (is_none k.shown.node && is_armed m.placer k.shown) (latest_of place r) []) (reading_is k o)
+    latest_one place = ap (λ r. cond {A = List LatestSample} (is_none k.shown.node && is_armed m.placer k.shown) (latest_of place r) []) (reading_is k o)
 
     abbrev test_of : List ℕ → ℕ → ℕ → List ℕ → List NodeSample
     test_of marks n r harts = record { node = n; from = k.shown.from; value = difference k.last r; ticks = ticks_between harts marks (ticks_of m) } ∷ []
@@ -117,7 +117,7 @@ module _ (i : Inputs) (m : Instrumented) where
   module _ (time : ℕ) where
     pub shown_sampled : (kits : List Kit) → AllByRecursion (IsOf i) kits → shown_in (map (kit_sampled m time) kits) ≡ map (sampled_to m.placer time) (shown_in kits)
     shown_sampled [] a = refl
-    shown_sampled (k ∷ kits) a = ap₂ (λ (x : Shown) (xs : List Shown). x ∷ xs) (shown_one time k a.0 (is_armed m.placer k.shown) refl) (shown_sampled kits a.1)
+    shown_sampled (k ∷ kits) a = ap₂ (λ (x : MetricFocusPair) (xs : List MetricFocusPair). x ∷ xs) (shown_one time k a.0 (is_armed m.placer k.shown) refl) (shown_sampled kits a.1)
 
     pub lasts_sampled : (kits : List Kit) → AllByRecursion (IsOf i) kits → lasts_in (map (kit_sampled m time) kits) ≡ lasts_now i m (shown_in kits) (lasts_in kits)
     lasts_sampled [] a = refl
@@ -132,7 +132,7 @@ module _ (i : Inputs) (m : Instrumented) where
 
     pub latest_sampled : (place : ℕ) (kits : List Kit) → AllByRecursion (IsOf i) kits → kits_latest m time place kits ≡ latest_read place i m time (shown_in kits) (lasts_in kits)
     latest_sampled place [] a = refl
-    latest_sampled place (k ∷ kits) a = ap₂ (λ (x xs : List Latest). x ++ xs) (latest_one time k a.0 place) (latest_sampled (place_behind k.shown.node place) kits a.1)
+    latest_sampled place (k ∷ kits) a = ap₂ (λ (x xs : List LatestSample). x ++ xs) (latest_one time k a.0 place) (latest_sampled (place_behind k.shown.node place) kits a.1)
 
     pub tests_sampled : (marks : List ℕ) (kits : List Kit) → AllByRecursion (IsOf i) kits → kits_tests m marks kits ≡ nodes_read i m time marks (shown_in kits) (lasts_in kits)
     tests_sampled marks [] a = refl
@@ -173,7 +173,7 @@ module _ (i : Inputs) (time : ℕ) where
 
   pub shown_armed : (m : Instrumented) (kits : List Kit) → AllByRecursion (IsOf i) kits → shown_in (kits_armed time m kits) ≡ all_armed time m (shown_in kits)
   shown_armed m [] a = refl
-  shown_armed m (k ∷ kits) a = ap₂ (λ (x : Shown) (xs : List Shown). x ∷ xs) (armed_shown m k a.0) (shown_armed (machine_armed m k.shown) kits a.1)
+  shown_armed m (k ∷ kits) a = ap₂ (λ (x : MetricFocusPair) (xs : List MetricFocusPair). x ∷ xs) (armed_shown m k a.0) (shown_armed (machine_armed m k.shown) kits a.1)
 
   pub lasts_all : (m : Instrumented) (kits : List Kit) → AllByRecursion (IsOf i) kits → lasts_in (kits_armed time m kits) ≡ lasts_armed i m (shown_in kits) (lasts_in kits)
   lasts_all m [] a = refl
@@ -206,11 +206,11 @@ module _ (i : Inputs) (ws : List CheckedWish) (t : Table) where
 
     pub sampled_is : kept_of ws (table_sampled t) ≡ with_samples (kept_of ws t)
     unfolding with_samples
-    sampled_is = ap (λ (s : List Shown). record (kept_of ws (table_sampled t)) { shown = s }) (shown_sampled i m t.time t.kits a)
+    sampled_is = ap (λ (s : List MetricFocusPair). record (kept_of ws (table_sampled t)) { shown = s }) (shown_sampled i m t.time t.kits a)
 
     pub armed_is : kept_of ws (table_armed t) ≡ with_arms (kept_of ws t)
     unfolding with_arms
-    armed_is = ap₂ (λ (x : Instrumented) (s : List Shown). record (kept_of ws t) { machine = x; shown = s }) (machine_all i t.time m t.kits) (shown_armed i t.time m t.kits a)
+    armed_is = ap₂ (λ (x : Instrumented) (s : List MetricFocusPair). record (kept_of ws t) { machine = x; shown = s }) (machine_all i t.time m t.kits) (shown_armed i t.time m t.kits a)
 
   pub judged_is : kept_of ws (table_judged t) ≡ with_verdicts t.tests (kept_of ws t)
   unfolding with_verdicts

@@ -5,7 +5,7 @@ use Rattle.session_spec.specs.Inputs.{Inputs}
 use Rattle.session_spec.proofs.Lists.{all_append}
 use Rattle.session_kits.specs.declared.kit.Kit.{Kit}
 use Rattle.session_kits.specs.Kits.{AreLive}
-use Rattle.session.specs.Outcomes.{IsStep}
+use Rattle.session.specs.Outcomes.{IsAdmissionStep}
 use Rattle.session.specs.Tables.{IsMore, IsNew, IsStill, Table}
 
 -- ---- pairs
@@ -45,7 +45,7 @@ pub record AreSteps (i : Inputs) (old t : Table) (n : ℕ) : Type 0 where
 pub no_steps : (i : Inputs) (t : Table) → AreLive t.machine.state.placer t.kits t.live → AreSteps i t t 0
 no_steps i t live = record { kits = none_more i t.kits; few = omega arith; room = omega arith; live = live; still = still_first t }
 
-pub next_step : (i : Inputs) (plan : Plan) (old t new : Table) (n : ℕ) → AreSteps i old t n → IsStep i plan t new → AreSteps i old new (n + 1)
+pub next_step : (i : Inputs) (plan : Plan) (old t new : Table) (n : ℕ) → AreSteps i old t n → IsAdmissionStep i plan t new → AreSteps i old new (n + 1)
 next_step i plan old t new n a s = record {
   kits = more_on i old.kits t.kits new.kits a.kits s.kits;
   few = omega (arith, a.few, s.few);

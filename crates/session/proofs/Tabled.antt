@@ -8,15 +8,15 @@ use Rattle.pn_types.specs.declared.limits.TheConstants.{MAX_BUDGET}
 use Rattle.machine.specs.Events.{IsQuiet}
 use Rattle.mdl_check.specs.declared.checked.CheckedWish.{CheckedWish}
 use Rattle.session_spec.specs.Inputs.{Inputs}
-use Rattle.session_spec.specs.States.{Kept, State}
+use Rattle.session_spec.specs.States.{SessionState, State}
 use Rattle.session_spec.specs.Admission.{with_admission}
 use Rattle.session_spec.specs.Due.{with_arms, with_frees, with_next, with_samples}
 use Rattle.session_spec.specs.Plans.{ArePlansGood}
 use Rattle.session_spec.specs.Readings.{lasts_armed, lasts_now, lasts_with, recorded_read, ticks_of}
-use Rattle.session_spec.specs.Reads.{IsSound, latest_read, marks_of, nodes_read}
+use Rattle.session_spec.specs.Reads.{IsSoundState, latest_read, marks_of, nodes_read}
 use Rattle.session_spec.specs.Turns.{with_entries, with_hart, with_quiet}
 use Rattle.session_spec.specs.Verdicts.{with_search_end, with_verdicts}
-use Rattle.session_spec.specs.Work.{closed, is_due, state_admitted, state_armed, state_done, state_ended, state_handed, state_judged, state_last, state_next, state_quiet, state_sampled, state_turned, state_worked, tend, tests_now, with_room}
+use Rattle.session_spec.specs.Work.{final_state, is_due, state_admitted, state_armed, state_done, state_ended, state_handed, state_judged, state_last, state_next, state_quiet, state_sampled, state_turned, state_worked, after_quantum, tests_now, with_room}
 use Rattle.session_spec.proofs.Measured.{latest_now, marks_admitted, marks_armed, marks_ended, marks_judged, marks_next, marks_quiet, marks_sampled, marks_turned, nodes_now, recorded_now}
 use Rattle.session_spec.proofs.Sound.{admitted_sound, armed_sound, ended_sound, handed_sound, is_quiet, judged_sound, next_sound, quiet_sound, sampled_sound, turned_sound}
 use Rattle.session_kits.specs.declared.kit.Kit.{Kit}
@@ -58,13 +58,13 @@ module _ (i : Inputs) (later left : List CheckedWish) (s : State) (t new : Table
   pub admitted_table : ArePlansGood i → kept_of left new ≡ with_admission i (kept_of later t) → IsMore i t.kits new.kits → new.latest ≡ t.latest → new.marks ≡ t.marks → IsTableOf i (state_admitted i s) left new
   admitted_table good kept more latest marks =
       let is : kept_of left new ≡ with_admission i s.kept = kept ∙ ap (with_admission i) k.kept in
-      let shown : shown_in new.kits ≡ (with_admission i s.kept).shown = ap (λ (x : Kept). x.shown) is in
+      let shown : shown_in new.kits ≡ (with_admission i s.kept).shown = ap (λ (x : SessionState). x.shown) is in
       record {
         kept = is;
         hists = subst (λ ss. AreFolded i new.kits (with_room ss s.recorded)) shown (folded_more i t.kits new.kits s.recorded more k.hists);
         latest = latest ∙ k.latest;
         marks = marks ∙ (k.marks ∙ marks_admitted i s (lasts_in t.kits) k.sound);
-        sound = subst (IsSound i (state_admitted i s)) (sym (lasts_more i t.kits new.kits more ∙ ap (λ ss. lasts_with ss (lasts_in t.kits)) shown)) (admitted_sound i s (lasts_in t.kits) k.sound good);
+        sound = subst (IsSoundState i (state_admitted i s)) (sym (lasts_more i t.kits new.kits more ∙ ap (λ ss. lasts_with ss (lasts_in t.kits)) shown)) (admitted_sound i s (lasts_in t.kits) k.sound good);
       }
 
 -- ---- the steps
@@ -121,36 +121,36 @@ module _ (i : Inputs) (later : List CheckedWish) (s : State) (t : Table) (k : Is
   module _ (quiet : IsQuiet s.kept.machine.core) (of : AllByRecursion (IsOf i) t.kits) where
     sampled_table : i.settings.budget ≤ MAX_BUDGET → 1 ≤ i.settings.bins → IsTableOf i (state_sampled i s) later (table_sampled t)
     sampled_table low some =
-        let recorded = subst (λ (x : Kept). recorded_read i x.machine x.time x.shown lasts s.recorded ≡ (state_sampled i s).recorded) (sym k.kept) (recorded_now i s lasts k.sound quiet low) in
-        let latest = subst (λ (x : Kept). latest_read 0 i x.machine x.time x.shown lasts ≡ (state_sampled i s).latest) (sym k.kept) (latest_now i s lasts k.sound quiet low) in
+        let recorded = subst (λ (x : SessionState). recorded_read i x.machine x.time x.shown lasts s.recorded ≡ (state_sampled i s).recorded) (sym k.kept) (recorded_now i s lasts k.sound quiet low) in
+        let latest = subst (λ (x : SessionState). latest_read 0 i x.machine x.time x.shown lasts ≡ (state_sampled i s).latest) (sym k.kept) (latest_now i s lasts k.sound quiet low) in
         let read : lasts_in (table_sampled t).kits ≡ lasts_now i s.kept.machine s.kept.shown lasts =
-        lasts_sampled i t.machine.state t.time t.kits of ∙ ap (λ (x : Kept). lasts_now i x.machine x.shown lasts) k.kept in
+        lasts_sampled i t.machine.state t.time t.kits of ∙ ap (λ (x : SessionState). lasts_now i x.machine x.shown lasts) k.kept in
         record {
           kept = sampled_is i later t of ∙ ap with_samples k.kept;
           hists = subst (AreFolded i (table_sampled t).kits) recorded (folded_sampled i t.machine.state t.time some t.kits of s.recorded k.hists);
           latest = latest_sampled i t.machine.state t.time 0 t.kits of ∙ latest;
-          marks = ap (λ (x : Kept). ticks_of x.machine) k.kept ∙ marks_sampled i s lasts k.sound;
-          sound = subst (IsSound i (state_sampled i s)) (sym read) (sampled_sound i s lasts k.sound quiet);
+          marks = ap (λ (x : SessionState). ticks_of x.machine) k.kept ∙ marks_sampled i s lasts k.sound;
+          sound = subst (IsSoundState i (state_sampled i s)) (sym read) (sampled_sound i s lasts k.sound quiet);
         }
 
     tests_are : i.settings.budget ≤ MAX_BUDGET → (table_sampled t).tests ≡ tests_now i s
     tests_are low =
         tests_sampled i t.machine.state t.time t.marks t.kits of
         ∙ (ap (λ marks. nodes_read i t.machine.state t.time marks (shown_in t.kits) lasts) k.marks
-        ∙ subst (λ (x : Kept). nodes_read i x.machine x.time (marks_of i s) x.shown lasts ≡ tests_now i s) (sym k.kept) (nodes_now i s lasts k.sound quiet low))
+        ∙ subst (λ (x : SessionState). nodes_read i x.machine x.time (marks_of i s) x.shown lasts ≡ tests_now i s) (sym k.kept) (nodes_now i s lasts k.sound quiet low))
 
     armed_table : s.kept.last ≡ s.kept.time → IsTableOf i (state_armed s) later (table_armed (table_freed t))
     armed_table now =
         let f = table_freed t in
         let freed : kept_of later f ≡ with_frees s.kept = freed_is i later t ∙ ap with_frees k.kept in
         let read : lasts_in (table_armed f).kits ≡ lasts_armed i (with_frees s.kept).machine (with_frees s.kept).shown lasts =
-        lasts_all i t.time f.machine.state t.kits of ∙ ap (λ (x : Kept). lasts_armed i x.machine x.shown lasts) freed in
+        lasts_all i t.time f.machine.state t.kits of ∙ ap (λ (x : SessionState). lasts_armed i x.machine x.shown lasts) freed in
         record {
           kept = armed_is i later f of ∙ ap with_arms freed;
           hists = folded_armed i t.time f.machine.state t.kits of s.recorded k.hists;
           latest = k.latest;
           marks = k.marks ∙ marks_armed i s lasts k.sound;
-          sound = subst (IsSound i (state_armed s)) (sym read) (armed_sound i s lasts k.sound quiet now);
+          sound = subst (IsSoundState i (state_armed s)) (sym read) (armed_sound i s lasts k.sound quiet now);
         }
 
 -- ---- the due work, and the last samples, of a quiet machine
@@ -199,7 +199,7 @@ module _ (i : Inputs) (low : i.settings.budget ≤ MAX_BUDGET) (some : 1 ≤ i.s
 
     worked_table : IsTableOf i (state_worked i s) later (cond (nat_le t.due t.time) (table_worked i.settings.width t) t)
     worked_table =
-        subst (λ (x : Kept). IsTableOf i (cond (is_due x) (state_done i (state_quiet s)) s) later (cond (nat_le t.due t.time) (table_worked i.settings.width t) t)) k.kept (by (nat_le t.due t.time))
+        subst (λ (x : SessionState). IsTableOf i (cond (is_due x) (state_done i (state_quiet s)) s) later (cond (nat_le t.due t.time) (table_worked i.settings.width t) t)) k.kept (by (nat_le t.due t.time))
       where
         by : (b : Bool) → IsTableOf i (cond b (state_done i (state_quiet s)) s) later (cond b (table_worked i.settings.width t) t)
         by true = done (state_quiet s) settled settles quiet of
@@ -207,7 +207,7 @@ module _ (i : Inputs) (low : i.settings.budget ≤ MAX_BUDGET) (some : 1 ≤ i.s
 
     if_last : IsTableOf i (cond (nat_lt (state_quiet s).kept.last (state_quiet s).kept.time) (state_last i (state_quiet s)) (state_quiet s)) later (cond (nat_lt settled.last settled.time) (table_last settled) settled)
     if_last =
-        subst (λ (x : Kept). IsTableOf i (cond (nat_lt x.last x.time) (state_last i (state_quiet s)) (state_quiet s)) later (cond (nat_lt settled.last settled.time) (table_last settled) settled)) settles.kept
+        subst (λ (x : SessionState). IsTableOf i (cond (nat_lt x.last x.time) (state_last i (state_quiet s)) (state_quiet s)) later (cond (nat_lt settled.last settled.time) (table_last settled) settled)) settles.kept
         (by (nat_lt settled.last settled.time))
       where
         by : (b : Bool) → IsTableOf i (cond b (state_last i (state_quiet s)) (state_quiet s)) later (cond b (table_last settled) settled)
@@ -215,12 +215,12 @@ module _ (i : Inputs) (low : i.settings.budget ≤ MAX_BUDGET) (some : 1 ≤ i.s
         by false = settles
 
     -- The end.
-    pub closed_table : IsTableOf i (closed i s) later (table_closed t)
-    unfolding closed
+    pub closed_table : IsTableOf i (final_state i s) later (table_closed t)
+    unfolding final_state
     closed_table =
         ended_table i later (cond (nat_lt (state_quiet s).kept.last (state_quiet s).kept.time) (state_last i (state_quiet s)) (state_quiet s)) (cond (nat_lt settled.last settled.time) (table_last settled) settled) if_last
 
   -- A quantum after its admission.
-  pub tended_table : (s : State) (t : Table) → IsTableOf i (state_admitted i s) later t → AllByRecursion (IsSoundKit i t.samples) t.kits → (h n : ℕ) → IsTableOf i (tend i h n s) later (table_tended i.settings.width h n t)
-  unfolding tend
+  pub tended_table : (s : State) (t : Table) → IsTableOf i (state_admitted i s) later t → AllByRecursion (IsSoundKit i t.samples) t.kits → (h n : ℕ) → IsTableOf i (after_quantum i h n s) later (table_tended i.settings.width h n t)
+  unfolding after_quantum
   tended_table s t k of h n = worked_table (state_handed (state_turned h n (state_admitted i s))) (table_begun h n t) (turned_table i later (state_admitted i s) t k h n) of

@@ -9,15 +9,15 @@ use Rattle.machine.specs.Cores.{In}
 use Rattle.instrument.specs.Needs.{need_of}
 use Rattle.w3_search.specs.declared.node.Node.{Node}
 use Rattle.w3_search.specs.declared.node.NodeState.{NodeState}
-use Rattle.w3_search.specs.Nodes.{changed, in_state}
+use Rattle.w3_search.specs.Nodes.{with_node_changed, in_state}
 use Rattle.w3_search.specs.Steps.{SearchData}
 use Rattle.session_spec.specs.Inputs.{Inputs}
 use Rattle.session_spec.specs.Searches.{metric_of}
-use Rattle.session_spec.specs.States.{Kept}
+use Rattle.session_spec.specs.States.{SessionState}
 use Rattle.session_spec.specs.Tests.{is_full, with_node, with_nodes}
 use Rattle.session.specs.declared.candidate.Candidate.{Candidate}
-use Rattle.session.specs.Contenders.{AreContenders, HasCost, IsContender, IsOneChanged, force_in, number_of, numbers_in}
-use Rattle.session.specs.Outcomes.{IsStep}
+use Rattle.session.specs.Contenders.{AreContenders, HasCost, IsContender, IsOneChanged, force_in, candidate_number, numbers_in}
+use Rattle.session.specs.Outcomes.{IsAdmissionStep}
 use Rattle.session.specs.Tables.{AreReady, Table, kept_of}
 use Rattle.session.proofs.Forces.{more_costs}
 use Rattle.session.proofs.Readiness.{drop_all, drop_step, ready_behind, ready_in}
@@ -28,22 +28,22 @@ use Rattle.session.proofs.Steps.{AreSteps, next_step}
 abbrev pub IsAs : NodeState → Node → Node → Type 0
 IsAs state x y = (y ≡ x) ⊎ (y ≡ in_state state x)
 
-pub get_changed : (state : NodeState) (n m : ℕ) (ns : List Node) (x : Node) → slice_get ns m ≡ Some x → (y : Node) × (slice_get (changed (in_state state) n ns) m ≡ Some y) × IsAs state x y
+pub get_changed : (state : NodeState) (n m : ℕ) (ns : List Node) (x : Node) → slice_get ns m ≡ Some x → (y : Node) × (slice_get (with_node_changed (in_state state) n ns) m ≡ Some y) × IsAs state x y
 get_changed state n m [] x e = absurd cc
 get_changed state zero zero (z ∷ ns) x e = (in_state state z, refl, inr (let same : z ≡ x = cc in ap (in_state state) same))
 get_changed state zero (suc m) (z ∷ ns) x e = (x, e, inl refl)
 get_changed state (suc n) zero (z ∷ ns) x e = (x, e, inl refl)
 get_changed state (suc n) (suc m) (z ∷ ns) x e = get_changed state n m ns x e
 
-one_stays : (i : Inputs) (state : NodeState) (n : ℕ) (ns : List Node) (plan : Plan) (c : Candidate) → IsContender i ns plan c → IsContender i (changed (in_state state) n ns) plan c
+one_stays : (i : Inputs) (state : NodeState) (n : ℕ) (ns : List Node) (plan : Plan) (c : Candidate) → IsContender i ns plan c → IsContender i (with_node_changed (in_state state) n ns) plan c
 unfolding metric_of
 one_stays i state n ns plan c k = by (get_changed state n k.number ns k.node k.stands)
   where
-    by : (y : Node) × (slice_get (changed (in_state state) n ns) k.number ≡ Some y) × IsAs state k.node y → IsContender i (changed (in_state state) n ns) plan c
+    by : (y : Node) × (slice_get (with_node_changed (in_state state) n ns) k.number ≡ Some y) × IsAs state k.node y → IsContender i (with_node_changed (in_state state) n ns) plan c
     by (y, e, inl same) = record { number = k.number; node = k.node; stands = e ∙ ap (λ (z : Node). Some z) same; pair = k.pair; candidate = k.candidate }
     by (y, e, inr same) = record { number = k.number; node = in_state state k.node; stands = e ∙ ap (λ (z : Node). Some z) same; pair = k.pair; candidate = k.candidate }
 
-all_stay : (i : Inputs) (state : NodeState) (n : ℕ) (ns : List Node) (plans : List Plan) (cs : List Candidate) → AreContenders i ns plans cs → AreContenders i (changed (in_state state) n ns) plans cs
+all_stay : (i : Inputs) (state : NodeState) (n : ℕ) (ns : List Node) (plans : List Plan) (cs : List Candidate) → AreContenders i ns plans cs → AreContenders i (with_node_changed (in_state state) n ns) plans cs
 all_stay i state n ns [] [] a = tt
 all_stay i state n ns [] (c ∷ cs) a = absurd a
 all_stay i state n ns (p ∷ plans) [] a = absurd a
@@ -55,7 +55,7 @@ contenders_stay i n old new plans cs (inr (state, e)) a = subst (λ (v : SearchD
 
 -- ---- one after another
 
-full_ends : (i : Inputs) (ns : List ℕ) (k : Kept) → is_full k.machine.placer ≡ true → with_nodes i ns k ≡ k
+full_ends : (i : Inputs) (ns : List ℕ) (k : SessionState) → is_full k.machine.placer ≡ true → with_nodes i ns k ≡ k
 full_ends i [] k e = refl
 full_ends i (n ∷ ns) k e = ap (λ b. cond b k (with_nodes i ns (with_node i n k))) e
 
@@ -84,18 +84,18 @@ module _ (i : Inputs) (plans : List Plan) (first : List Candidate) (old : Table)
   pub node_ready : In (need_of plan) t.machine.ready
   node_ready = ready_in (need_of plan) (map need_of (drop (place + 1) plans)) t.machine.ready needed
 
-  pub next_taking : (new : Table) (now : ℕ) → is_full t.machine.state.placer ≡ false → ((ws : List CheckedWish) → kept_of ws new ≡ with_node i (number_of c) (kept_of ws t)) → IsStep i plan t new
-      → IsOneChanged (number_of c) t.search new.search → now ≡ force_in new.machine.state.placer new.kits → Taking i plans first old (place + 1) new cs now
+  pub next_taking : (new : Table) (now : ℕ) → is_full t.machine.state.placer ≡ false → ((ws : List CheckedWish) → kept_of ws new ≡ with_node i (candidate_number c) (kept_of ws t)) → IsAdmissionStep i plan t new
+      → IsOneChanged (candidate_number c) t.search new.search → now ≡ force_in new.machine.state.placer new.kits → Taking i plans first old (place + 1) new cs now
   next_taking new now more_allowed kept step search is = record {
     kept = λ ws.
         ap (with_nodes i (numbers_in cs)) (kept ws)
-        ∙ (sym (ap (λ b. cond b (kept_of ws t) (with_nodes i (numbers_in cs) (with_node i (number_of c) (kept_of ws t)))) more_allowed)
+        ∙ (sym (ap (λ b. cond b (kept_of ws t) (with_nodes i (numbers_in cs) (with_node i (candidate_number c) (kept_of ws t)))) more_allowed)
         ∙ (ap (λ (xs : List Candidate). with_nodes i (numbers_in xs) (kept_of ws t)) (sym is_c) ∙ k.kept ws));
     steps = next_step i plan old t new place k.steps step;
     some = k.some;
     most = k.most;
     program = k.program;
-    each = contenders_stay i (number_of c) t.search new.search (drop (place + 1) plans) cs search heads.1;
+    each = contenders_stay i (candidate_number c) t.search new.search (drop (place + 1) plans) cs search heads.1;
     ready = ready_behind plan (map need_of (drop (place + 1) plans)) t.machine.ready new.machine.ready needed step.ready;
     costs = more_costs i t.kits new.kits k.costs step.kits;
     counted = is;

@@ -13,22 +13,22 @@ use Rattle.w3_search.specs.declared.node.Node.{Node}
 use Rattle.w3_search.specs.declared.node.NodeState.TheVariants.{Active}
 use Rattle.w3_search.specs.Nodes.{is_waiting}
 use Rattle.w3_search.specs.Steps.{SearchData, with_state}
-use Rattle.session_spec.specs.declared.data.Shown.{Shown}
+use Rattle.session_spec.specs.declared.data.MetricFocusPair.{MetricFocusPair}
 use Rattle.session_spec.specs.Inputs.{Inputs, planned}
 use Rattle.session_spec.specs.Searches.{metric_of, rules_of}
-use Rattle.session_spec.specs.States.{Kept}
+use Rattle.session_spec.specs.States.{SessionState}
 use Rattle.session_spec.specs.Tests.{barred, in_force, must_wait, tests_next, with_node, with_plan_of, with_test, with_waiting}
 use Rattle.session_kits.specs.declared.kit.Kit.{Kit}
 use Rattle.session_kits.proofs.Dropped.{shown_in}
 use Rattle.session.specs.declared.candidate.Candidate.{Candidate}
 use Rattle.session.specs.declared.failure.Failure.{Failure}
 use Rattle.session.specs.declared.failure.Failure.TheVariants.{NoPlan, Refused}
-use Rattle.session.specs.Candidates.{IsPlanned, newly_shown}
+use Rattle.session.specs.Candidates.{IsPlanOrFault, newly_shown}
 use Rattle.session.specs.Contenders.{IsContender}
 use Rattle.session.specs.Outcomes.{IsFailure, IsInstrumented, bar_cause_of}
 use Rattle.session.specs.Tables.{Table, kept_of}
 
-module _ (i : Inputs) (n : ℕ) (k : Kept) (node : Node) (stands : slice_get k.search.nodes n ≡ Some node) where
+module _ (i : Inputs) (n : ℕ) (k : SessionState) (node : Node) (stands : slice_get k.search.nodes n ≡ Some node) where
   -- one that doesn't wait isn't taken
   pub not_waiting : is_waiting node.state ≡ false → with_node i n k ≡ k
   unfolding with_node
@@ -63,13 +63,13 @@ pub kept_same : (ws : List CheckedWish) (old new : Table) → new ≡ record old
 kept_same ws old new e machine kits = ap (kept_of ws) e ∙ ap₂ (λ (m : Instrumented) (ks : List Kit). record (kept_of ws old) { machine = m; shown = shown_in ks }) machine kits
 
 module _ (i : Inputs) (old : Table) (plan : Plan) (c : Candidate) (x : IsContender i old.search.nodes plan c) where
-  pub planned_by : (o : Option PlanFault) → c.fault ≡ o → IsPlanned i (metric_of i x.node) (x.node).focus o plan
+  pub planned_by : (o : Option PlanFault) → c.fault ≡ o → IsPlanOrFault i (metric_of i x.node) (x.node).focus o plan
   planned_by o e =
-      subst (λ f. IsPlanned i (metric_of i x.node) f o plan) (x.pair).focus_is
-      (subst (λ m. IsPlanned i m c.focus o plan) (x.pair).metric_is (subst (λ y. IsPlanned i c.metric c.focus y plan) e (x.candidate).planned))
+      subst (λ f. IsPlanOrFault i (metric_of i x.node) f o plan) (x.pair).focus_is
+      (subst (λ m. IsPlanOrFault i m c.focus o plan) (x.pair).metric_is (subst (λ y. IsPlanOrFault i c.metric c.focus y plan) e (x.candidate).planned))
 
   -- the costs in force don't hold it
-  abbrev pub NeedsNotWait : Kept → Type 0
+  abbrev pub NeedsNotWait : SessionState → Type 0
   NeedsNotWait k = c.fault ≡ None → must_wait (rules_of i).decl.cost (predicted plan) (in_force i k.machine.placer k.shown) ≡ false
 
   module _ (ws : List CheckedWish) (f : is_waiting (x.node).state ≡ true) (w : NeedsNotWait (kept_of ws old)) where
@@ -87,11 +87,11 @@ module _ (i : Inputs) (old : Table) (plan : Plan) (c : Candidate) (x : IsContend
         let k = kept_of ws old in
         let named : number ≡ record { n = k.machine.placer.count } = ap (λ (n : ℕ). let y : InstrumentNo = record { n = n } in y) s.number_is in
         let next : newly_shown c number ≡ tests_next i x.number x.node k =
-        ap (λ (o : Option ℕ). let y : Shown = record { instrument = number; node = o; metric = c.metric; focus = c.focus; armed = None; from = 0 } in y) (x.pair).node_is
-        ∙ (ap₂ (λ (y : InstrumentNo) (m : ℕ). let z : Shown = record { instrument = y; node = Some x.number; metric = m; focus = c.focus; armed = None; from = 0 } in z) named (x.pair).metric_is
-        ∙ ap (λ g. let y : Shown = record { instrument = record { n = k.machine.placer.count }; node = Some x.number; metric = metric_of i x.node; focus = g; armed = None; from = 0 } in y) (x.pair).focus_is) in
-        let shown : shown_in new.kits ≡ k.shown ++ tests_next i x.number x.node k ∷ [] = ap shown_in s.kits ∙ (map-append (λ (y : Kit). y.shown) old.kits _ ∙ ap (λ (y : Shown). k.shown ++ y ∷ []) next) in
+        ap (λ (o : Option ℕ). let y : MetricFocusPair = record { instrument = number; node = o; metric = c.metric; focus = c.focus; armed = None; from = 0 } in y) (x.pair).node_is
+        ∙ (ap₂ (λ (y : InstrumentNo) (m : ℕ). let z : MetricFocusPair = record { instrument = y; node = Some x.number; metric = m; focus = c.focus; armed = None; from = 0 } in z) named (x.pair).metric_is
+        ∙ ap (λ g. let y : MetricFocusPair = record { instrument = record { n = k.machine.placer.count }; node = Some x.number; metric = metric_of i x.node; focus = g; armed = None; from = 0 } in y) (x.pair).focus_is) in
+        let shown : shown_in new.kits ≡ k.shown ++ tests_next i x.number x.node k ∷ [] = ap shown_in s.kits ∙ (map-append (λ (y : Kit). y.shown) old.kits _ ∙ ap (λ (y : MetricFocusPair). k.shown ++ y ∷ []) next) in
         ap (λ (t : Table). kept_of ws (record t { search = search })) e
         ∙ (ap (λ v. record k { machine = new.machine.state; shown = shown_in new.kits; search = v }) is
-        ∙ (ap₂ (λ (m : Instrumented) (ss : List Shown). record k { machine = m; shown = ss; search = with_state x.number Active old.search }) s.machine shown
+        ∙ (ap₂ (λ (m : Instrumented) (ss : List MetricFocusPair). record k { machine = m; shown = ss; search = with_state x.number Active old.search }) s.machine shown
         ∙ sym (admits i x.number k x.node x.stands plan f (planned_by None s.planned).0 (w s.planned) ∙ ap (λ r. with_test r i x.number x.node plan k) s.placed)))

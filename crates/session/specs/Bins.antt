@@ -6,11 +6,11 @@ use Rattle.resource_tree.specs.Foci.{canonical}
 use Rattle.machine.specs.Cores.{In}
 use Rattle.machine.specs.Laws.{IsProgram}
 use Rattle.report.specs.declared.parts.ShownPart.{ShownPart}
-use Rattle.session_spec.specs.declared.data.Shown.{Shown}
+use Rattle.session_spec.specs.declared.data.MetricFocusPair.{MetricFocusPair}
 use Rattle.session_spec.specs.Inputs.{Inputs, planned}
 use Rattle.session_spec.specs.Plans.{ArePlansGood}
 use Rattle.session_spec.specs.States.{State}
-use Rattle.session_spec.specs.Work.{closed, work}
+use Rattle.session_spec.specs.Work.{final_state, after_quanta}
 use Rattle.session_spec.specs.Bins.{AreMeasured}
 use Rattle.session_spec.specs.Printed.{AreForOpening}
 use Rattle.session.specs.Parts.{metric_of, name_of, parts_of}
@@ -18,7 +18,7 @@ use Rattle.session.specs.Parts.{metric_of, name_of, parts_of}
 -- The part of a pair that was wished. Its bins follow one another from its arming on, none is empty, and each is what its metric's plan
 -- at its focus measures over it; where it wasn't armed it has none.
 pub record IsPartOf (i : Inputs) (s : State) (part : ShownPart) : Type 0 where
-  pub x : Shown
+  pub x : MetricFocusPair
   pub listed : In x s.kept.shown
   pub wished : x.node ≡ None
   pub metric : part.metric ≡ name_of (metric_of i x.metric)
@@ -46,7 +46,7 @@ AreWholeParts i s = (part : ShownPart) → In part (parts_of i s).shown → IsWh
 -- This holds after each quantum and after the end, where time passes between two due works. Where all wishes are for the opening,
 -- and none drops a pair, they are whole.
 pub record PartsTold : Type 0 where
-  pub works : (i : Inputs) (quanta : List Quantum) → 1 ≤ i.settings.width → AreParts i (work i quanta)
-  pub closes : (i : Inputs) (quanta : List Quantum) → 1 ≤ i.settings.width → AreParts i (closed i (work i quanta))
+  pub works : (i : Inputs) (quanta : List Quantum) → 1 ≤ i.settings.width → AreParts i (after_quanta i quanta)
+  pub closes : (i : Inputs) (quanta : List Quantum) → 1 ≤ i.settings.width → AreParts i (final_state i (after_quanta i quanta))
   pub whole : (i : Inputs) (quanta : List Quantum)
-      → 1 ≤ i.settings.width → IsProgram i.image → ArePlansGood i → AreForOpening i → AreWholeParts i (closed i (work i quanta))
+      → 1 ≤ i.settings.width → IsProgram i.image → ArePlansGood i → AreForOpening i → AreWholeParts i (final_state i (after_quanta i quanta))

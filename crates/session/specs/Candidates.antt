@@ -4,13 +4,13 @@ use Rattle.pn_types.specs.declared.focus.Focus.{Focus}
 use Rattle.pn_types.specs.declared.plan.Plan.{Plan}
 use Rattle.prim_code.specs.Counts.{predicted}
 use Rattle.fold_hist.specs.Bins.{Histogram, hist_of}
-use Rattle.resource_tree.specs.Foci.{harts_of}
+use Rattle.resource_tree.specs.Foci.{harts_of_node}
 use Rattle.mdl_check.specs.declared.checked.CheckedWish.{CheckedWish}
 use Rattle.mdl_plan.specs.declared.fault.PlanFault.{PlanFault}
 use Rattle.instrument.specs.Admission.{slot_count}
 use Rattle.instrument.specs.Armable.{IsArmable}
 use Rattle.instrument.specs.declared.number.InstrumentNo.{InstrumentNo}
-use Rattle.session_spec.specs.declared.data.Shown.{Shown}
+use Rattle.session_spec.specs.declared.data.MetricFocusPair.{MetricFocusPair}
 use Rattle.session_spec.specs.Inputs.{Inputs, planned}
 use Rattle.session_spec.specs.Plans.{IsGood}
 use Rattle.session_kits.specs.declared.kit.Kit.{Kit}
@@ -26,13 +26,13 @@ pub record IsShort (i : Inputs) (plan : Plan) : Type 0 where
   pub armable : IsArmable plan.opens
 
 -- the plan of a metric at a focus, unless there is none by this fault
-abbrev pub IsPlanned : Inputs → ℕ → Focus → Option PlanFault → Plan → Type 0
-IsPlanned i metric focus None plan = (planned i metric focus ≡ Ok plan) × IsShort i plan
-IsPlanned i metric focus (Some fault) plan = planned i metric focus ≡ Err fault
+abbrev pub IsPlanOrFault : Inputs → ℕ → Focus → Option PlanFault → Plan → Type 0
+IsPlanOrFault i metric focus None plan = (planned i metric focus ≡ Ok plan) × IsShort i plan
+IsPlanOrFault i metric focus (Some fault) plan = planned i metric focus ≡ Err fault
 
 -- a focus names a hart that there is
-abbrev pub IsWithin : Inputs → Focus → Type 0
-IsWithin i focus = (harts_of i.tree.harts focus.hart).0 + (harts_of i.tree.harts focus.hart).1 ≤ i.settings.harts
+abbrev pub HasItsHarts : Inputs → Focus → Type 0
+HasItsHarts i focus = (harts_of_node i.tree.harts focus.hart).0 + (harts_of_node i.tree.harts focus.hart).1 ≤ i.settings.harts
 
 -- a histogram of no sample, where no node is tested
 abbrev pub first_hist : Inputs → Option ℕ → Option Histogram
@@ -40,9 +40,9 @@ first_hist i node = if is_none node then Some (hist_of i.settings.bins []) else 
 
 -- what is known of a candidate with its plan
 pub record IsCandidate (i : Inputs) (plan : Plan) (c : Candidate) : Type 0 where
-  pub planned : IsPlanned i c.metric c.focus c.fault plan
+  pub planned : IsPlanOrFault i c.metric c.focus c.fault plan
   pub words : predicted plan < 2 ^ 32
-  pub within : IsWithin i c.focus
+  pub within : HasItsHarts i c.focus
   pub hist : c.hist ≡ first_hist i c.node
 
 -- whose node, metric and focus these are
@@ -67,15 +67,15 @@ AreOfWishes i ws plans cs = ⊥
 -- ---- its instrument
 
 -- what is shown or tested by the instrument of this number, which isn't armed yet
-abbrev pub newly_shown : Candidate → InstrumentNo → Shown
+abbrev pub newly_shown : Candidate → InstrumentNo → MetricFocusPair
 newly_shown c number = record { instrument = number; node = c.node; metric = c.metric; focus = c.focus; armed = None; from = 0 }
 
 abbrev pub new_kit : Inputs → Plan → Candidate → InstrumentNo → Kit
 new_kit i plan c number = record {
   shown = newly_shown c number;
   cost = if is_some c.node then predicted plan else 0;
-  first = (harts_of i.tree.harts c.focus.hart).0;
-  count = (harts_of i.tree.harts c.focus.hart).1;
+  first = (harts_of_node i.tree.harts c.focus.hart).0;
+  count = (harts_of_node i.tree.harts c.focus.hart).1;
   last = 0;
   hist = c.hist;
 }

@@ -7,12 +7,12 @@ use Rattle.w3_search.specs.declared.node.Node.{Node}
 use Rattle.w3_search.specs.declared.node.NodeState.{NodeState}
 use Rattle.w3_search.specs.Nodes.{waiting_of}
 use Rattle.w3_search.specs.Steps.{SearchData, new_search, with_state}
-use Rattle.session_spec.specs.declared.data.Shown.{Shown}
+use Rattle.session_spec.specs.declared.data.MetricFocusPair.{MetricFocusPair}
 use Rattle.session_spec.specs.Inputs.{Inputs, planned}
 use Rattle.session_spec.specs.Searches.{metric_of, rules_of}
 use Rattle.session_spec.specs.Tests.{is_gone, must_wait, taken_at_once, words_of}
 use Rattle.session_kits.specs.declared.kit.Kit.{Kit}
-use Rattle.session.specs.Candidates.{IsCandidate, IsPairOf, IsWithin}
+use Rattle.session.specs.Candidates.{IsCandidate, IsPairOf, HasItsHarts}
 use Rattle.session.specs.declared.candidate.Candidate.{Candidate}
 
 -- ---- the beginning
@@ -27,8 +27,8 @@ abbrev pub queue_of : Inputs → ℕ → SearchData → List ℕ
 queue_of i observed search = if nat_lt (rules_of i).decl.observed observed then [] else take taken_at_once (waiting_of search.nodes)
 
 -- node n stands, and its focus names a hart that there is
-abbrev pub IsNodeOf : Inputs → List Node → ℕ → Type 0
-IsNodeOf i nodes n = (node : Node) × (slice_get nodes n ≡ Some node) × IsWithin i node.focus
+abbrev pub IsNodeWithHarts : Inputs → List Node → ℕ → Type 0
+IsNodeWithHarts i nodes n = (node : Node) × (slice_get nodes n ≡ Some node) × HasItsHarts i node.focus
 
 -- ---- what a node needs to be taken
 
@@ -50,11 +50,11 @@ abbrev pub number_or_none : Option ℕ → ℕ
 number_or_none None = 0
 number_or_none (Some n) = n
 
-abbrev pub number_of : Candidate → ℕ
-number_of c = number_or_none c.node
+abbrev pub candidate_number : Candidate → ℕ
+candidate_number c = number_or_none c.node
 
 abbrev pub numbers_in : List Candidate → List ℕ
-numbers_in cs = map number_of cs
+numbers_in cs = map candidate_number cs
 
 -- ---- which nodes aren't taken
 
@@ -77,7 +77,7 @@ AreWithout i nodes force (n ∷ ns) (m ∷ ms) =
 -- ---- the costs in force
 
 -- what an instrument adds to the costs in force
-abbrev pub cost_of : Inputs → Shown → ℕ
+abbrev pub cost_of : Inputs → MetricFocusPair → ℕ
 cost_of i s = if is_some s.node then words_of i s else 0
 
 -- its cost is what it adds, and has 32 bits

@@ -12,17 +12,17 @@ use Rattle.rv_word.specs.Names.{scratch_in, words_of}
 use Rattle.rv_word.specs.Plain.{program_word}
 use Rattle.rv_mem.specs.Start.{program_of}
 use Rattle.mdl_ast.specs.declared.items.SearchDecl.{SearchDecl}
-use Rattle.mdl_check.specs.Sound.{IsSound}
+use Rattle.mdl_check.specs.Sound.{IsSoundCheck}
 use Rattle.mdl_check.specs.declared.checked.CheckedWish.{CheckedWish}
 use Rattle.mdl_plan.specs.Fitting.{HasLowObjects}
 use Rattle.machine.specs.Cores.{In}
-use Rattle.resource_tree.specs.Foci.{harts_of}
+use Rattle.resource_tree.specs.Foci.{harts_of_node}
 use Rattle.session_spec.specs.Inputs.{Inputs}
 
 -- a wish names a metric, and its focus names a hart that there is
 pub record IsWishOf (i : Inputs) (w : CheckedWish) : Type 0 where
   pub metric : w.metric < length i.checked.metrics
-  pub harts : (harts_of i.tree.harts w.focus.hart).0 + (harts_of i.tree.harts w.focus.hart).1 ≤ i.settings.harts
+  pub harts : (harts_of_node i.tree.harts w.focus.hart).0 + (harts_of_node i.tree.harts w.focus.hart).1 ≤ i.settings.harts
 
 -- the window of a search that is wanted has a sample
 abbrev pub HasWindow : Option SearchDecl → Type 0
@@ -37,7 +37,7 @@ pub record AreGiven (i : Inputs) : Type 0 where
   pub settings : AreInRange i.settings
   pub harts : i.tree.harts ≡ i.settings.harts
   pub objects : HasLowObjects i.tree
-  pub checked : IsSound i.checked
+  pub checked : IsSoundCheck i.checked
   pub wishes : (w : CheckedWish) → In w i.checked.wishes → IsWishOf i w
   pub few_wishes : length i.checked.wishes < 2 ^ 29
   pub few_metrics : length i.checked.metrics < 2 ^ 32

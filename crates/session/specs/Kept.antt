@@ -7,7 +7,7 @@ use Rattle.mdl_check.specs.declared.checked.CheckedWish.{CheckedWish}
 use Rattle.machine.specs.Cores.{In}
 use Rattle.machine.specs.Events.{IsQuiet}
 use Rattle.machine.specs.Laws.{IsProgram}
-use Rattle.resource_tree.specs.Foci.{harts_of}
+use Rattle.resource_tree.specs.Foci.{harts_of_node}
 use Rattle.session_spec.specs.Inputs.{Inputs, first_wishes, later_wishes}
 use Rattle.session_spec.specs.Opening.{wished}
 use Rattle.session_spec.specs.Work.{AreAllowed}
@@ -23,13 +23,13 @@ use Rattle.session.specs.Tables.{IsMore, IsStill, IsTableOf, Table, first_table,
 
 -- the harts of a pair are those of its focus and harts of the machine; it has at most as many samples as were taken
 pub record IsSoundKit (i : Inputs) (samples : ℕ) (k : Kit) : Type 0 where
-  pub harts : (k.first, k.count) ≡ harts_of i.tree.harts k.shown.focus.hart
+  pub harts : (k.first, k.count) ≡ harts_of_node i.tree.harts k.shown.focus.hart
   pub within : k.first + k.count ≤ i.settings.harts
   pub few : IfSome k.hist (λ hist. hist.count ≤ samples)
   pub cost : HasCost i k
 
 -- after these quanta, and after the end where it was closed
-pub record IsKept (i : Inputs) (quanta : List Quantum) (over : Bool) (later : List CheckedWish) (t : Table) : Type 0 where
+pub record IsTableAfter (i : Inputs) (quanta : List Quantum) (over : Bool) (later : List CheckedWish) (t : Table) : Type 0 where
   pub given : AreGiven i
   pub good : ArePlansGood i
   pub allowed : AreAllowed i quanta

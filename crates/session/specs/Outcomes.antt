@@ -8,7 +8,7 @@ use Rattle.instrument.specs.Needs.{need_of, without}
 use Rattle.instrument.specs.Placements.{Placements, admission}
 use Rattle.instrument.specs.Scenes.{Admits}
 use Rattle.instrument.specs.declared.number.InstrumentNo.{InstrumentNo}
-use Rattle.instrumented.specs.Instrumented.{done}
+use Rattle.instrumented.specs.Instrumented.{after_act}
 use Rattle.session_spec.specs.Inputs.{Inputs, cause_of_plan, cause_of_refusal}
 use Rattle.session_spec.specs.Searches.{bar_of_plan, bar_of_refusal}
 use Rattle.session_kits.specs.Kits.{AreLive}
@@ -36,7 +36,7 @@ pub record IsInstrumented
   pub planned : c.fault ≡ None
   pub placed : admission old.machine.state.placer plan limit ≡ Ok new.machine.state.placer
   pub number_is : number.n ≡ old.machine.state.placer.count
-  pub machine : new.machine.state ≡ done (Admits plan limit) old.machine.state
+  pub machine : new.machine.state ≡ after_act (Admits plan limit) old.machine.state
   pub kits : new.kits ≡ old.kits ++ new_kit i plan c number ∷ []
 
 -- why it has none
@@ -53,7 +53,7 @@ pub record IsFailed (plan : Plan) (fault : Option PlanFault) (limit : Option ℕ
 
 -- What one step of an admission changes, for which this plan is ready: there is at most one more pair, and no other pair is
 -- different.
-pub record IsStep (i : Inputs) (plan : Plan) (old new : Table) : Type 0 where
+pub record IsAdmissionStep (i : Inputs) (plan : Plan) (old new : Table) : Type 0 where
   pub kits : IsMore i old.kits new.kits
   pub few : length new.kits ≤ length old.kits + 1
   pub room : old.room ≤ new.room + 1

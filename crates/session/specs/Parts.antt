@@ -19,7 +19,7 @@ use Rattle.report.specs.declared.parts.ReportParts.{ReportParts}
 use Rattle.report.specs.declared.parts.SearchPart.{SearchPart}
 use Rattle.report.specs.declared.parts.ShownPart.{ShownPart}
 use Rattle.session_spec.specs.declared.data.RefusedWish.{RefusedWish}
-use Rattle.session_spec.specs.declared.data.Shown.{Shown}
+use Rattle.session_spec.specs.declared.data.MetricFocusPair.{MetricFocusPair}
 use Rattle.session_spec.specs.Inputs.{Inputs}
 use Rattle.session_spec.specs.States.{State}
 
@@ -54,7 +54,7 @@ refused_part i r = record {
 }
 
 -- an instrument that shows something, or did, with a histogram
-abbrev pub shown_part : Inputs → Shown → Histogram → ShownPart
+abbrev pub shown_part : Inputs → MetricFocusPair → Histogram → ShownPart
 shown_part i s h = record {
   metric = name_of (metric_of i s.metric);
   focus = canonical i.tree s.focus;
@@ -65,7 +65,7 @@ shown_part i s h = record {
 }
 
 -- each of these that was wished with the histogram of its samples
-abbrev pub shown_parts : Inputs → List Shown → List (List Bin) → List ShownPart
+abbrev pub shown_parts : Inputs → List MetricFocusPair → List (List Bin) → List ShownPart
 shown_parts i [] rs = []
 shown_parts i (s ∷ ss) [] = []
 shown_parts i (s ∷ ss) (r ∷ rs) = (if is_none s.node then shown_part i s (hist_of i.settings.bins r) ∷ [] else []) ++ shown_parts i ss rs

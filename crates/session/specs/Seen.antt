@@ -7,7 +7,7 @@ use Rattle.machine.specs.Places.{program_pc}
 use Rattle.report.specs.declared.parts.HartPart.{HartPart}
 use Rattle.report.specs.declared.parts.ReportParts.{ReportParts}
 use Rattle.report.specs.declared.parts.ShownPart.{ShownPart}
-use Rattle.session_spec.specs.declared.data.Shown.{Shown}
+use Rattle.session_spec.specs.declared.data.MetricFocusPair.{MetricFocusPair}
 use Rattle.session_spec.specs.Inputs.{Inputs}
 use Rattle.session_kits.specs.declared.kit.Kit.{Kit}
 use Rattle.report.specs.HartEnds.{hart_end}
@@ -19,7 +19,7 @@ abbrev pub hart_seen : ℕ → Core → Hart → HartPart
 hart_seen budget c x = record { ticks = x.ticks; stop = hart_end x.stop (nat_lt x.ticks budget); pc = program_pc c.code c.rows x }
 
 -- those that have a histogram
-abbrev pub parts_by : Inputs → Shown → Option Histogram → List ShownPart
+abbrev pub parts_by : Inputs → MetricFocusPair → Option Histogram → List ShownPart
 parts_by i s None = []
 parts_by i s (Some h) = shown_part i s h ∷ []
 

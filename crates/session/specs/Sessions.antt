@@ -8,14 +8,14 @@ use Rattle.session_spec.specs.declared.data.RefusedWish.{RefusedWish}
 use Rattle.session_spec.specs.Inputs.{Inputs}
 use Rattle.session_spec.specs.Opening.{bad_pick}
 use Rattle.session_spec.specs.States.{State}
-use Rattle.session_spec.specs.Work.{closed, work}
+use Rattle.session_spec.specs.Work.{final_state, after_quanta}
 use Rattle.session.specs.Parts.{metric_of, name_of}
 use Rattle.session.specs.declared.fault.StartFault.{StartFault}
 use Rattle.session.specs.declared.fault.StartFault.TheVariants.{NoMemory, BadPick}
 
 -- its state after these quanta, in its closed form where it was closed
 abbrev pub state_at : Inputs → List Quantum → Bool → State
-state_at i quanta over = if over then closed i (work i quanta) else work i quanta
+state_at i quanta over = if over then final_state i (after_quanta i quanta) else after_quanta i quanta
 
 -- What a session was given, its machine with the instruments, the quanta that it took, and whether it was closed.
 pub record SessionData : Type 0 where
@@ -29,8 +29,8 @@ abbrev pub session_at : Inputs → List Quantum → Bool → SessionData
 session_at i quanta over = record { inputs = i; machine = (state_at i quanta over).kept.machine; quanta = quanta; closed = over }
 
 -- how one begins
-abbrev pub begun : Inputs → SessionData
-begun i = session_at i [] false
+abbrev pub new_session : Inputs → SessionData
+new_session i = session_at i [] false
 
 -- a refused wish is told by the name of its metric, its focus, and why
 abbrev pub IsToldAs : Inputs → RefusedWish → List ℕ → List ℕ → PickCause → Type 0

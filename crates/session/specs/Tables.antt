@@ -9,14 +9,14 @@ use Rattle.machine.specs.States.{quantum_turns, settling}
 use Rattle.instrument.specs.Needs.{Need}
 use Rattle.instrument.specs.Scenes.{Hands, Sweeps}
 use Rattle.instrumented.specs.Data.{InstrumentedData}
-use Rattle.instrumented.specs.Instrumented.{first_instrumented, repeated, taken}
-use Rattle.resource_tree.specs.Foci.{harts_of}
-use Rattle.session_spec.specs.declared.data.Latest.{Latest}
+use Rattle.instrumented.specs.Instrumented.{first_instrumented, repeated, after_turns}
+use Rattle.resource_tree.specs.Foci.{harts_of_node}
+use Rattle.session_spec.specs.declared.data.LatestSample.{LatestSample}
 use Rattle.session_spec.specs.declared.data.RefusedWish.{RefusedWish}
-use Rattle.session_spec.specs.declared.data.Shown.{Shown}
+use Rattle.session_spec.specs.declared.data.MetricFocusPair.{MetricFocusPair}
 use Rattle.session_spec.specs.Inputs.{Inputs}
-use Rattle.session_spec.specs.States.{Kept, State}
-use Rattle.session_spec.specs.Reads.{IsSound, marks_of}
+use Rattle.session_spec.specs.States.{SessionState, State}
+use Rattle.session_spec.specs.Reads.{IsSoundState, marks_of}
 use Rattle.session_spec.specs.Due.{next_due, observed_cost}
 use Rattle.session_spec.specs.Readings.{ticks_of}
 use Rattle.session_spec.specs.Admission.{with_admission}
@@ -39,7 +39,7 @@ pub record Table : Type 0 where
   pub kits : List Kit
   pub live : List ℕ
   pub search : SearchData
-  pub latest : List Latest
+  pub latest : List LatestSample
   pub tests : List NodeSample
   pub marks : List ℕ
   pub places : ℕ
@@ -54,7 +54,7 @@ pub record Table : Type 0 where
 
 -- ---- what a session goes on from
 
-abbrev pub shown_in : List Kit → List Shown
+abbrev pub shown_in : List Kit → List MetricFocusPair
 shown_in kits = map (λ (k : Kit). k.shown) kits
 
 -- what was read last of each
@@ -62,7 +62,7 @@ abbrev pub lasts_in : List Kit → List ℕ
 lasts_in kits = map (λ (k : Kit). k.last) kits
 
 -- with the wishes that are to come
-abbrev pub kept_of : List CheckedWish → Table → Kept
+abbrev pub kept_of : List CheckedWish → Table → SessionState
 kept_of ws t = record {
   machine = t.machine.state;
   wishes = ws;
@@ -79,7 +79,7 @@ kept_of ws t = record {
 }
 
 -- the histogram of a pair with these samples, if it was wished
-abbrev pub hist_at : Inputs → Shown → List Bin → Option Histogram
+abbrev pub hist_at : Inputs → MetricFocusPair → List Bin → Option Histogram
 hist_at i s r = if is_none s.node then Some (hist_of i.settings.bins r) else None
 
 -- each has the histogram of its samples, if it was wished
@@ -96,7 +96,7 @@ pub record IsTableOf (i : Inputs) (s : State) (later : List CheckedWish) (t : Ta
   pub hists : AreFolded i t.kits s.recorded
   pub latest : t.latest ≡ s.latest
   pub marks : t.marks ≡ marks_of i s
-  pub sound : IsSound i s (lasts_in t.kits)
+  pub sound : IsSoundState i s (lasts_in t.kits)
 
 -- where nothing was done yet, and work is due at this time
 abbrev pub table_at_first : InstrumentedData → SearchData → List ℕ → ℕ → ℕ → Table
@@ -144,7 +144,7 @@ pub record CanSample (t : Table) : Type 0 where
 -- turns
 abbrev pub table_taken : List Event → Table → Table
 table_taken turns t = record t {
-  machine = record t.machine { state = taken turns t.machine.state };
+  machine = record t.machine { state = after_turns turns t.machine.state };
   time = t.time + length (owns turns t.machine.state.core);
   idle = t.idle + (length turns - length (owns turns t.machine.state.core));
 }
@@ -231,7 +231,7 @@ table_tended width h n t =
 pub record IsNew (i : Inputs) (k : Kit) : Type 0 where
   pub last : k.last ≡ 0
   pub hist : k.hist ≡ hist_at i k.shown []
-  pub harts : (k.first, k.count) ≡ harts_of i.tree.harts k.shown.focus.hart
+  pub harts : (k.first, k.count) ≡ harts_of_node i.tree.harts k.shown.focus.hart
   pub within : k.first + k.count ≤ i.settings.harts
   pub cost : k.cost ≡ cost_of i k.shown
   pub low : k.cost < 2 ^ 32
@@ -269,7 +269,7 @@ pub record IsStill (old new : Table) : Type 0 where
   pub rules : new.search.rules ≡ old.search.rules
 
 -- after an admission in which the first `n` wishes were looked at
-pub record IsAdmission (i : Inputs) (later : List CheckedWish) (old new : Table) (n : ℕ) : Type 0 where
+pub record IsAfterAdmission (i : Inputs) (later : List CheckedWish) (old new : Table) (n : ℕ) : Type 0 where
   pub looked : n ≤ length later
   pub kept : kept_of (drop n later) new ≡ with_admission i (kept_of later old)
   pub kits : IsMore i old.kits new.kits

@@ -12,7 +12,7 @@ ghost use Rattle.session_spec.specs.Tests.{taken_at_once, with_tests};
 ghost use Rattle.session_kits.specs.Kits.{AreLive};
 ghost use Rattle.session.specs.Contenders.{HasCost, force_in};
 ghost use Rattle.session.specs.KnownCosts.{AreKnown};
-ghost use Rattle.session.specs.Tables.{IsAdmission, IsMore, IsSame, IsStill, kept_of};
+ghost use Rattle.session.specs.Tables.{IsAfterAdmission, IsMore, IsSame, IsStill, kept_of};
 
 use crate::desk::Desk;
 use crate::inputs::Inputs;
@@ -111,7 +111,7 @@ fn admit(
     requires costs { AllByRecursion (HasCost inputs.now) desk.old.kits }
     requires live { AreLive desk.old.machine.state.placer desk.old.kits desk.old.live }
     requires known { AreKnown inputs.now costs.old }
-    ensures ok { IfOk result (IsAdmission inputs.now wishes.now desk.old desk.new) }
+    ensures ok { IfOk result (IsAfterAdmission inputs.now wishes.now desk.old desk.new) }
     ensures err { OnErr result (IsSame desk.old desk.new) }
     ensures known { AreKnown inputs.now costs.new }
 {
@@ -147,7 +147,7 @@ pub(crate) fn admit_from(
     requires costs { AllByRecursion (HasCost inputs.now) desk.old.kits }
     requires live { AreLive desk.old.machine.state.placer desk.old.kits desk.old.live }
     requires known { AreKnown inputs.now costs.old }
-    ensures ok { IfOk result (IsAdmission inputs.now (drop looked wishes.now) desk.old desk.new) }
+    ensures ok { IfOk result (IsAfterAdmission inputs.now (drop looked wishes.now) desk.old desk.new) }
     ensures err { OnErr result (IsSame desk.old desk.new) }
     ensures known { AreKnown inputs.now costs.new }
 {

@@ -1,7 +1,7 @@
 //! Pairs for which instruments are wanted.
 
 ghost use Rattle.std.specs.Prelude.{◌≡◌, IfOk};
-ghost use Rattle.session.specs.Candidates.{IsCandidate, IsPairOf, IsWithin, first_hist};
+ghost use Rattle.session.specs.Candidates.{IsCandidate, IsPairOf, HasItsHarts, first_hist};
 ghost use Rattle.session.specs.Given.{AreGiven};
 
 use crate::inputs::Inputs;
@@ -49,7 +49,7 @@ pub(crate) fn prepare(
     focus: Focus,
 ) -> Result<(Plan, Candidate), NoMemory>
     requires given { AreGiven inputs.now }
-    requires within { IsWithin inputs.now focus }
+    requires within { HasItsHarts inputs.now focus }
     ensures candidate { IfOk result (λ made. IsCandidate inputs.now made.0 made.1) }
     ensures pair { IfOk result (λ made. IsPairOf node metric focus made.1) }
 {

@@ -13,7 +13,7 @@ ghost use Rattle.session_spec.specs.Inputs.{planned};
 ghost use Rattle.session_spec.specs.Opening.{with_all};
 ghost use Rattle.session_kits.specs.Kits.{AreLive};
 ghost use Rattle.session.specs.Candidates.{AreOfWishes, IsCandidate, IsOfWish, IsPairOf};
-ghost use Rattle.session.specs.Outcomes.{IsStep};
+ghost use Rattle.session.specs.Outcomes.{IsAdmissionStep};
 ghost use Rattle.session.specs.Tables.{AreReady, IsMore, IsStill, kept_of};
 
 use crate::candidate::Candidate;
@@ -106,7 +106,7 @@ impl Desk {
         requires live { AreLive self.old.machine.state.placer self.old.kits self.old.live }
         ensures kept { (ws : List CheckedWish)
             → kept_of ws self.new ≡ with_plan (planned inputs.now wish.now.metric wish.now.focus) wish.now (kept_of ws self.old) }
-        ensures step { IsStep inputs.now plan.now self.old self.new }
+        ensures step { IsAdmissionStep inputs.now plan.now self.old self.new }
         ensures search { self.new.search ≡ self.old.search }
     {
         match self.instrument(alloc, inputs, plan, candidate, None) {
@@ -130,7 +130,7 @@ impl Desk {
         requires ready { In (need_of plan.now) self.old.machine.ready }
         requires live { AreLive self.old.machine.state.placer self.old.kits self.old.live }
         ensures kept { (ws : List CheckedWish) → kept_of ws self.new ≡ with_wish inputs.now wish.now (kept_of ws self.old) }
-        ensures step { IsStep inputs.now plan.now self.old self.new }
+        ensures step { IsAdmissionStep inputs.now plan.now self.old self.new }
         ensures search { self.new.search ≡ self.old.search }
     {
         let shown = find_shown(&self.machine, &self.kits.all, wish);

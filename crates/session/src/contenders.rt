@@ -8,7 +8,7 @@ ghost use Rattle.session_spec.specs.Inputs.{Inputs};
 ghost use Rattle.session_spec.specs.Searches.{metric_of, number_from, rules_of};
 ghost use Rattle.session_spec.specs.Tests.{must_wait};
 ghost use Rattle.session.specs.Candidates.{IsCandidate};
-ghost use Rattle.session.specs.Contenders.{AreContenders, AreWithout, IsContender, IsNodeOf, MustWait, numbers_in, queue_of};
+ghost use Rattle.session.specs.Contenders.{AreContenders, AreWithout, IsContender, IsNodeWithHarts, MustWait, numbers_in, queue_of};
 ghost use Rattle.session.specs.KnownCosts.{AreKnown};
 ghost use Rattle.session.specs.Given.{AreGiven};
 
@@ -145,7 +145,7 @@ fn prepare_node(
     costs: &mut KnownCosts,
 ) -> Result<Option<(Plan, Candidate)>, NoMemory>
     requires given { AreGiven inputs.now }
-    requires node { IsNodeOf inputs.now nodes.now number }
+    requires node { IsNodeWithHarts inputs.now nodes.now number }
     requires force { force < 2 ^ 63 }
     requires known { AreKnown inputs.now costs.old }
     ensures none { IfOk result (λ made. IfNone made (MustWait inputs.now nodes.now force number)) }

@@ -13,7 +13,7 @@ use instrumented::InstrumentedMachine;
 use machine::Sample;
 use pn_types::HartNo;
 use session_kits::{Kits, arm_kits, drop_tests, hand_out, mark_ticks, sample_kits, sweep};
-use session_spec::{Latest, RefusedWish};
+use session_spec::{LatestSample, RefusedWish};
 use std::marker::Model;
 use w3_search::{NodeSample, Search};
 
@@ -28,7 +28,7 @@ pub(crate) struct Desk {
     pub(crate) kits: Kits,
     pub(crate) search: Search,
     // The samples of the last time that any were taken: of what was wished, and of the nodes under test.
-    pub(crate) latest: Vec<Latest>,
+    pub(crate) latest: Vec<LatestSample>,
     pub(crate) tests: Vec<NodeSample>,
     // How many ticks each hart had then.
     pub(crate) marks: Vec<u64>,

@@ -7,7 +7,7 @@ ghost use Rattle.prim_code.specs.Counts.{predicted};
 ghost use Rattle.instrument.specs.Needs.{need_of};
 ghost use Rattle.session_kits.specs.Kits.{AreLive};
 ghost use Rattle.session.specs.Candidates.{IsCandidate, new_kit};
-ghost use Rattle.session.specs.Outcomes.{IsFailed, IsInstrumented, IsStep};
+ghost use Rattle.session.specs.Outcomes.{IsFailed, IsInstrumented, IsAdmissionStep};
 
 use crate::candidate::Candidate;
 use crate::desk::Desk;
@@ -17,7 +17,7 @@ use instrument::InstrumentNo;
 use pn_types::Plan;
 use prim_code::predicted;
 use session_kits::Kit;
-use session_spec::Shown;
+use session_spec::MetricFocusPair;
 use std::alloc::Global;
 
 /// Returns the pair of an instrument that was admitted with this plan and isn't armed yet.
@@ -31,7 +31,7 @@ fn new_kit(inputs: &Inputs, plan: &Plan, candidate: Candidate, number: Instrumen
         None => 0,
     };
     Kit {
-        shown: Shown {
+        shown: MetricFocusPair {
             instrument: number,
             node: candidate.node,
             metric: candidate.metric,
@@ -69,7 +69,7 @@ impl Desk {
         requires live { AreLive self.old.machine.state.placer self.old.kits self.old.live }
         ensures ok { IfOk result (IsInstrumented inputs.now plan.now candidate limit self.old self.new) }
         ensures err { IfErr result (IsFailed plan.now candidate.fault limit self.old self.new) }
-        ensures step { IsStep inputs.now plan.now self.old self.new }
+        ensures step { IsAdmissionStep inputs.now plan.now self.old self.new }
         ensures same { self.new ≡ record self.old {
           machine = self.new.machine;
           kits = self.new.kits;

@@ -14,7 +14,7 @@ use mdl_ast::Metric;
 use pn_types::{HartNo, MAX_HARTS, NoMemory, Seq, Settings, Text};
 use report::{HartPart, RefusedPart, ReportParts, ShownPart, hart_end};
 use session_kits::Kit;
-use session_spec::{RefusedWish, Shown};
+use session_spec::{RefusedWish, MetricFocusPair};
 use std::alloc::Global;
 
 /// Returns what a report shows of a hart.
@@ -112,7 +112,7 @@ fn refused_parts(
 fn shown_part(
     alloc: Global,
     inputs: &Inputs,
-    shown: &Shown,
+    shown: &MetricFocusPair,
     hist: &Hist,
 ) -> Result<ShownPart, NoMemory>
     ensures { IfOk result (λ part. part ≡ shown_part inputs.now shown.now hist.now) }

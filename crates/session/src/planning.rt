@@ -1,10 +1,10 @@
 //! Plans of metrics at foci.
 
 ghost use Rattle.std.specs.Prelude.{◌<◌, ◌^◌, IfOk};
-ghost use Rattle.mdl_plan.specs.Plans.{Answers};
+ghost use Rattle.mdl_plan.specs.Plans.{IsPlanOr};
 ghost use Rattle.prim_code.specs.Counts.{predicted};
 ghost use Rattle.session_spec.specs.Inputs.{planned};
-ghost use Rattle.session.specs.Candidates.{IsPlanned, IsShort};
+ghost use Rattle.session.specs.Candidates.{IsPlanOrFault, IsShort};
 ghost use Rattle.session.specs.Given.{AreGiven};
 
 use crate::inputs::Inputs;
@@ -15,7 +15,7 @@ use std::alloc::Global;
 /// Returns the plan of a metric at a focus, started as the settings say, or why there is none.
 fn planned(alloc: Global, inputs: &Inputs, metric: u32, focus: &Focus) -> Result<Plan, PlanError>
     requires { AreGiven inputs.now }
-    ensures answer { Answers result (planned inputs.now metric focus.now) }
+    ensures answer { IsPlanOr result (planned inputs.now metric focus.now) }
     ensures short { IfOk result (IsShort inputs.now) }
 {
     if metric as usize >= inputs.checked.metrics.as_slice().len() {
@@ -55,7 +55,7 @@ pub(crate) fn plan_or_fault(
     focus: &Focus,
 ) -> Result<(Plan, Option<PlanFault>), NoMemory>
     requires { AreGiven inputs.now }
-    ensures plan { IfOk result (λ made. IsPlanned inputs.now metric focus.now made.1 made.0) }
+    ensures plan { IfOk result (λ made. IsPlanOrFault inputs.now metric focus.now made.1 made.0) }
     ensures words { IfOk result (λ made. predicted made.0 < 2 ^ 32) }
 {
     match planned(alloc, inputs, metric, focus) {

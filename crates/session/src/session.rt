@@ -9,7 +9,7 @@ ghost use Rattle.session_spec.specs.Run.{IsRun};
 ghost use Rattle.session_spec.specs.Told.{AreEnded, AreJudged};
 ghost use Rattle.session_spec.specs.Work.{AreAllowed, Halted, IsWhole, quantum_of};
 ghost use Rattle.session_spec.specs.Bins.{AreRecorded};
-ghost use Rattle.session_spec.specs.Costs.{AreWithin, IsWithin};
+ghost use Rattle.session_spec.specs.Costs.{AreWithin, IsWithinLimit};
 ghost use Rattle.session_spec.specs.Feed.{IsFeed};
 ghost use Rattle.session_spec.specs.Printed.{AreForOpening, AreWholeRuns};
 ghost use Rattle.session_spec.specs.LastReadings.{AreReadNext};
@@ -17,7 +17,7 @@ ghost use Rattle.session_spec.specs.Laws.{AreBarred};
 ghost use Rattle.session.specs.Bins.{AreParts, AreWholeParts};
 ghost use Rattle.session.specs.Given.{AreGiven};
 ghost use Rattle.session.specs.Parts.{parts_of};
-ghost use Rattle.session.specs.Sessions.{begun, IsStartFault, session_at, state_of};
+ghost use Rattle.session.specs.Sessions.{new_session, IsStartFault, session_at, state_of};
 ghost use Rattle.w3_search.specs.History.{IsHistory};
 
 use crate::admitting::admit_from;
@@ -37,7 +37,7 @@ use pn_types::{
 };
 use report::ReportParts;
 use resource_tree::Tree;
-use session_spec::Latest;
+use session_spec::LatestSample;
 use std::alloc::Global;
 use std::marker::Model;
 
@@ -59,7 +59,7 @@ impl Model for Session {
     ghost use Rattle.std.specs.Prelude.{◌≤◌, drop, vec_len};
     ghost use Rattle.machine.specs.Codes.{core_code};
     ghost use Rattle.session.specs.KnownCosts.{AreKnown};
-    ghost use Rattle.session.specs.Kept.{IsKept};
+    ghost use Rattle.session.specs.Kept.{IsTableAfter};
     ghost use Rattle.session.specs.Sessions.{SessionData};
 
     ghost Value = { SessionData };
@@ -68,7 +68,7 @@ impl Model for Session {
 
     ghost view = { λ s. record { inputs = s.inputs; machine = s.desk.machine.state; quanta = s.quanta.items; closed = s.closed } };
 
-    ghost invariant = { λ s. IsKept s.inputs s.quanta.items s.closed (drop s.looked s.wishes.items) s.desk
+    ghost invariant = { λ s. IsTableAfter s.inputs s.quanta.items s.closed (drop s.looked s.wishes.items) s.desk
         × (s.looked ≤ vec_len s.wishes) × AreKnown s.inputs s.costs };
 }
 
@@ -106,7 +106,7 @@ impl Session {
         settings: Settings,
     ) -> Result<Session, StartFault>
         requires { AreGiven (inputs_of image checked tree procs points settings) }
-        ensures begun { IfOk result (λ session. session ≡ begun (inputs_of image checked tree procs points settings)) }
+        ensures begun { IfOk result (λ session. session ≡ new_session (inputs_of image checked tree procs points settings)) }
         ensures picked { IfOk result (λ session. bad_pick (inputs_of image checked tree procs points settings) ≡ None) }
         ensures refused { IfErr result (IsStartFault (inputs_of image checked tree procs points settings)) }
     {
@@ -121,7 +121,7 @@ impl Session {
     /// As [`Session::new`].
     pub fn begin(alloc: Global, inputs: Inputs) -> Result<Session, StartFault>
         requires { AreGiven inputs }
-        ensures begun { IfOk result (λ session. session ≡ begun inputs) }
+        ensures begun { IfOk result (λ session. session ≡ new_session inputs) }
         ensures picked { IfOk result (λ session. bad_pick inputs ≡ None) }
         ensures refused { IfErr result (IsStartFault inputs) }
     {
@@ -176,7 +176,7 @@ impl Session {
     }
 
     /// Returns the samples of the last time that any were taken, in the order of what they show.
-    pub fn latest(&self) -> &[Latest]
+    pub fn latest(&self) -> &[LatestSample]
         ensures { result.now ≡ (state_of self.now).latest }
     {
         &self.desk.latest
@@ -218,7 +218,7 @@ impl Session {
         ensures verdicts { self.now.closed ≡ false → AreJudged self.now.inputs (state_of self.now) }
         ensures bars { AreBarred self.now.inputs self.now.quanta (state_of self.now) }
         ensures told { self.now.closed ≡ true → AreEnded self.now.inputs self.now.quanta (state_of self.now) }
-        ensures cost { IsWithin self.now.inputs (state_of self.now).kept }
+        ensures cost { IsWithinLimit self.now.inputs (state_of self.now).kept }
         ensures moments { self.now.closed ≡ false → AreWithin self.now.inputs (state_of self.now) }
     {
         // For the proof alone: `nodes` says that they are a history.

@@ -6,7 +6,7 @@ ghost use Rattle.session_spec.specs.Inputs.{later_wishes};
 ghost use Rattle.session_spec.specs.Opening.{bad_pick, first_refused};
 ghost use Rattle.session.specs.KnownCosts.{AreKnown};
 ghost use Rattle.session.specs.Given.{AreGiven};
-ghost use Rattle.session.specs.Kept.{IsAdmitted, IsKept};
+ghost use Rattle.session.specs.Kept.{IsAdmitted, IsTableAfter};
 ghost use Rattle.session.specs.Sessions.{IsStartFault};
 
 use crate::desk::Desk;
@@ -76,7 +76,7 @@ pub(crate) fn opened(
     requires given { AreGiven inputs.now }
     requires known { AreKnown inputs.now costs.old }
     ensures known { AreKnown inputs.now costs.new }
-    ensures kept { IfOk result (IsKept inputs.now [] false (later_wishes inputs.now)) }
+    ensures kept { IfOk result (IsTableAfter inputs.now [] false (later_wishes inputs.now)) }
     ensures picked { IfOk result (λ desk. bad_pick inputs.now ≡ None) }
     ensures refused { IfErr result (IsStartFault inputs.now) }
 {

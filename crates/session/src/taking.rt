@@ -11,8 +11,8 @@ ghost use Rattle.w3_search.specs.Nodes.{is_waiting};
 ghost use Rattle.w3_search.specs.Steps.{Waits};
 ghost use Rattle.session_spec.specs.Tests.{barred, with_node, with_nodes};
 ghost use Rattle.session_kits.specs.Kits.{AreLive};
-ghost use Rattle.session.specs.Contenders.{AreContenders, HasCost, IsContender, IsOneChanged, counted, force_in, number_of, numbers_in};
-ghost use Rattle.session.specs.Outcomes.{IsStep};
+ghost use Rattle.session.specs.Contenders.{AreContenders, HasCost, IsContender, IsOneChanged, counted, force_in, candidate_number, numbers_in};
+ghost use Rattle.session.specs.Outcomes.{IsAdmissionStep};
 ghost use Rattle.session.specs.Tables.{AreReady, IsMore, IsStill, kept_of};
 
 use crate::candidate::Candidate;
@@ -93,9 +93,9 @@ impl Desk {
         requires costs { AllByRecursion (HasCost inputs.now) self.old.kits }
         requires few { length self.old.kits + 1 < 2 ^ 31 }
         requires force { force ≡ force_in self.old.machine.state.placer self.old.kits }
-        ensures kept { (ws : List CheckedWish) → kept_of ws self.new ≡ with_node inputs.now (number_of candidate) (kept_of ws self.old) }
-        ensures step { IsStep inputs.now plan.now self.old self.new }
-        ensures search { IsOneChanged (number_of candidate) self.old.search self.new.search }
+        ensures kept { (ws : List CheckedWish) → kept_of ws self.new ≡ with_node inputs.now (candidate_number candidate) (kept_of ws self.old) }
+        ensures step { IsAdmissionStep inputs.now plan.now self.old self.new }
+        ensures search { IsOneChanged (candidate_number candidate) self.old.search self.new.search }
         ensures force { result ≡ force_in self.new.machine.state.placer self.new.kits }
     {
         let Some(node) = candidate.node else {

@@ -4,7 +4,7 @@ use Rattle.std.specs.Prelude.{true}
 use Rattle.std.specs.List.{AllByRecursion}
 use Rattle.instrumented.specs.Instrumented.{Instrumented}
 use Rattle.session_spec.specs.Due.{is_ready, machine_armed}
-use Rattle.session_spec.specs.Rosters.{AreBelow, IsRoster}
+use Rattle.session_spec.specs.Rosters.{AreBelow, AreNumbered}
 use Rattle.session_spec.proofs.Likes.{below_more}
 use Rattle.session_spec.proofs.Spending.{later_ready}
 use Rattle.session_kits.specs.declared.kit.Kit.{Kit}
@@ -18,7 +18,7 @@ use Rattle.session_kits.proofs.Live.{places_later}
 pub record AreArmed (time : ℕ) (first : Instrumented) (old : List Kit) (h : ℕ) (m : Instrumented) (front left : List Kit) : Type 0 where
   pub machine : machine_of_armed m left ≡ machine_of_armed first old
   pub done : front ++ kits_armed time m left ≡ kits_armed time first old
-  pub roster : IsRoster m.placer
+  pub roster : AreNumbered m.placer
   pub below : AreBelow m.placer.count (shown_in left)
   pub harts : AllByRecursion (HasHarts h) left
 

@@ -7,8 +7,8 @@ use Rattle.instrument.specs.Scenes.{Arms}
 use Rattle.instrument.specs.declared.number.State.{State}
 use Rattle.instrument.specs.declared.number.State.TheVariants.{Placing, Armed, Leaving, Gone}
 use Rattle.instrumented.specs.Data.{InstrumentedData}
-use Rattle.instrumented.specs.Instrumented.{Instrumented, done, is_linked}
-use Rattle.session_spec.specs.declared.data.Shown.{Shown}
+use Rattle.instrumented.specs.Instrumented.{Instrumented, after_act, is_linked}
+use Rattle.session_spec.specs.declared.data.MetricFocusPair.{MetricFocusPair}
 use Rattle.session_spec.specs.Due.{is_armed, is_armed_state, is_placing, is_ready, machine_armed}
 use Rattle.session_kits.specs.declared.kit.Kit.{Kit}
 use Rattle.session_kits.specs.Kits.{kit_armed, kit_reading}
@@ -26,7 +26,7 @@ here Placing e g = true≢false (sym e)
 here Leaving e g = true≢false (sym e)
 here Gone e g = true≢false (sym e)
 
-pub armed_here : (p : Placements) (s : Shown) → is_armed p s ≡ true → state_of p s.instrument.n ≡ Gone → ⊥
+pub armed_here : (p : Placements) (s : MetricFocusPair) → is_armed p s ≡ true → state_of p s.instrument.n ≡ Gone → ⊥
 armed_here p s e g = here (state_of p s.instrument.n) e g
 
 pub armed_there : (p : Placements) (n : ℕ) → state_of p n ≡ Armed → state_of p n ≡ Gone → ⊥
@@ -46,14 +46,14 @@ module _ (m : Instrumented) (k : Kit) where
   ready e l = ap₂ (λ a b. a && b) e l
 
   pub same : is_ready m k.shown ≡ false → m ≡ machine_armed m k.shown
-  same e = sym (cond-false (is_ready m k.shown) (done (Arms n) m) m e)
+  same e = sym (cond-false (is_ready m k.shown) (after_act (Arms n) m) m e)
 
   pub same_kit : (time : ℕ) → is_ready m k.shown ≡ false → k ≡ kit_armed time m k
   unfolding kit_armed
   same_kit time e = sym (cond-false (is_ready m k.shown) _ k e)
 
-  pub armed_is : is_ready m k.shown ≡ true → machine_armed m k.shown ≡ done (Arms n) m
-  armed_is e = cond-true (is_ready m k.shown) (done (Arms n) m) m e
+  pub armed_is : is_ready m k.shown ≡ true → machine_armed m k.shown ≡ after_act (Arms n) m
+  armed_is e = cond-true (is_ready m k.shown) (after_act (Arms n) m) m e
 
   pub armed_kit : (time : ℕ) → is_ready m k.shown ≡ true → kit_armed time m k ≡ record k { shown = record k.shown { armed = Some time; from = time }; last = kit_reading (machine_armed m k.shown) k }
   unfolding kit_armed
@@ -61,10 +61,10 @@ module _ (m : Instrumented) (k : Kit) where
 
 -- what the code makes of one that is ready
 module _ (d : InstrumentedData) (k : Kit) (new : InstrumentedData) (b : Bool) (on : is_ready d.state k.shown ≡ true)
-    (state : new ≡ record d { state = cond b (done (Arms k.shown.instrument.n) d.state) d.state }) (yes_is : b ≡ true) where
+    (state : new ≡ record d { state = cond b (after_act (Arms k.shown.instrument.n) d.state) d.state }) (yes_is : b ≡ true) where
   pub armed_machine : new ≡ record d { state = machine_armed d.state k.shown }
   armed_machine =
-      state ∙ (ap (λ x. record d { state = cond x (done (Arms k.shown.instrument.n) d.state) d.state }) yes_is ∙ ap (λ (x : Instrumented). record d { state = x }) (sym (armed_is d.state k on)))
+      state ∙ (ap (λ x. record d { state = cond x (after_act (Arms k.shown.instrument.n) d.state) d.state }) yes_is ∙ ap (λ (x : Instrumented). record d { state = x }) (sym (armed_is d.state k on)))
 
   pub armed_now : (time reading : ℕ) → reading ≡ kit_reading new.state k → record k { shown = record k.shown { armed = Some time; from = time }; last = reading } ≡ kit_armed time d.state k
   armed_now time reading r =

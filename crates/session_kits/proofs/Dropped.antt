@@ -10,17 +10,17 @@ use Rattle.instrument.specs.Scenes.{Drops}
 use Rattle.instrument.specs.declared.number.InstrumentNo.{InstrumentNo}
 use Rattle.instrument.specs.declared.number.State.{State}
 use Rattle.instrument.specs.declared.number.State.TheVariants.{Placing, Armed, Leaving, Gone}
-use Rattle.instrumented.specs.Instrumented.{Instrumented, done}
+use Rattle.instrumented.specs.Instrumented.{Instrumented, after_act}
 use Rattle.w3_search.specs.Nodes.{is_same_number}
-use Rattle.session_spec.specs.declared.data.Shown.{Shown}
-use Rattle.session_spec.specs.States.{Kept}
+use Rattle.session_spec.specs.declared.data.MetricFocusPair.{MetricFocusPair}
+use Rattle.session_spec.specs.States.{SessionState}
 use Rattle.session_spec.specs.Verdicts.{tester_of, tests, without_tester, without_tests}
 use Rattle.session_kits.specs.declared.kit.Kit.{Kit}
 use Rattle.session_kits.specs.Kits.{dropped_by, dropped_tests}
 
 -- ---- the tester of a node
 
-abbrev pub shown_in : List Kit → List Shown
+abbrev pub shown_in : List Kit → List MetricFocusPair
 shown_in kits = map (λ (k : Kit). k.shown) kits
 
 module _ (m : Instrumented) (n : ℕ) (kits : List Kit) where
@@ -29,14 +29,14 @@ module _ (m : Instrumented) (n : ℕ) (kits : List Kit) where
 
   abbrev pub dropped_no : Option InstrumentNo → Instrumented
   dropped_no None = m
-  dropped_no (Some number) = done (Drops number.n) m
+  dropped_no (Some number) = after_act (Drops number.n) m
 
   same_drop : (o : Option Kit) → dropped_by (option_map (λ (k : Kit). k.shown) o) m ≡ dropped_no (option_map (λ (k : Kit). k.shown.instrument) o)
   same_drop None = refl
   same_drop (Some k) = refl
 
   pub dropped_as : (o : Option InstrumentNo) → o ≡ option_map (λ (k : Kit). k.shown.instrument) found → dropped_no o ≡ dropped_by (tester_of m.placer n (shown_in kits)) m
-  dropped_as o e = ap dropped_no e ∙ sym (same_drop found) ∙ ap (λ (s : Option Shown). dropped_by s m) (find_map (λ (k : Kit). k.shown) (tests m.placer n) kits)
+  dropped_as o e = ap dropped_no e ∙ sym (same_drop found) ∙ ap (λ (s : Option MetricFocusPair). dropped_by s m) (find_map (λ (k : Kit). k.shown) (tests m.placer n) kits)
 
   stands : (q : State) → not (is_leaving q) ≡ true → (q ≡ Placing) ⊎ (q ≡ Armed)
   stands Placing e = inl refl
@@ -60,13 +60,13 @@ module _ (m : Instrumented) (n : ℕ) (kits : List Kit) where
 
 -- ---- what the drops change
 
-one_dropped : (o : Option Shown) (k : Kept) → without_tester o k ≡ record k { machine = dropped_by o k.machine }
+one_dropped : (o : Option MetricFocusPair) (k : SessionState) → without_tester o k ≡ record k { machine = dropped_by o k.machine }
 one_dropped None k = refl
 one_dropped (Some s) k = refl
 
 -- the machine alone
-pub without_tests_are : (ns : List ℕ) (k : Kept) → without_tests ns k ≡ record k { machine = dropped_tests ns k.shown k.machine }
+pub without_tests_are : (ns : List ℕ) (k : SessionState) → without_tests ns k ≡ record k { machine = dropped_tests ns k.shown k.machine }
 without_tests_are [] k = refl
 without_tests_are (n ∷ ns) k =
     let o = tester_of k.machine.placer n k.shown in
-    without_tests_are ns (without_tester o k) ∙ ap (λ (x : Kept). record x { machine = dropped_tests ns x.shown x.machine }) (one_dropped o k)
+    without_tests_are ns (without_tester o k) ∙ ap (λ (x : SessionState). record x { machine = dropped_tests ns x.shown x.machine }) (one_dropped o k)

@@ -8,12 +8,12 @@ use Rattle.machine.specs.Events.{Event}
 use Rattle.instrument.specs.Placements.{Placements, state_of}
 use Rattle.instrument.specs.Scenes.{Act, Drops}
 use Rattle.instrument.specs.declared.number.InstrumentNo.{InstrumentNo}
-use Rattle.instrumented.specs.Instrumented.{Instrumented, done, repeated, taken}
-use Rattle.session_spec.specs.declared.data.Shown.{Shown}
+use Rattle.instrumented.specs.Instrumented.{Instrumented, after_act, repeated, after_turns}
+use Rattle.session_spec.specs.declared.data.MetricFocusPair.{MetricFocusPair}
 use Rattle.session_spec.specs.Due.{arm_all, is_armed, is_ready, machine_armed}
 use Rattle.session_spec.specs.Tests.{is_gone}
 use Rattle.session_spec.specs.Verdicts.{tester_of}
-use Rattle.session_spec.specs.Rosters.{AreBelow, IsRoster}
+use Rattle.session_spec.specs.Rosters.{AreBelow, AreNumbered}
 use Rattle.session_spec.proofs.Acting.{IsNoArming, done_since, repeated_since, taken_placer}
 use Rattle.session_spec.proofs.TestCosts.{Later, later_since}
 use Rattle.session_spec.proofs.Likes.{below_more, below_push}
@@ -43,21 +43,21 @@ live_later p q kits live l a = record {
 }
 
 module _ (m : Instrumented) (kits : List Kit) (live : List ℕ) (a : AreLive m.placer kits live) where
-  pub live_done : (act : Act) → IsNoArming act → AreLive (done act m).placer kits live
-  live_done act o = live_later m.placer (done act m).placer kits live (later_since m.placer (done act m).placer (done_since act o m a.roster)) a
+  pub live_done : (act : Act) → IsNoArming act → AreLive (after_act act m).placer kits live
+  live_done act o = live_later m.placer (after_act act m).placer kits live (later_since m.placer (after_act act m).placer (done_since act o m a.roster)) a
 
   pub live_repeated : (n : ℕ) (act : Act) → IsNoArming act → AreLive (repeated n act m).placer kits live
   live_repeated n act o = live_later m.placer (repeated n act m).placer kits live (later_since m.placer (repeated n act m).placer (repeated_since n act o m a.roster)) a
 
   -- turns don't touch the instruments
-  pub live_taken : (turns : List Event) → AreLive (taken turns m).placer kits live
+  pub live_taken : (turns : List Event) → AreLive (after_turns turns m).placer kits live
   live_taken turns = subst (λ (p : Placements). AreLive p kits live) (sym (taken_placer turns m)) a
 
-  pub live_dropped : (o : Option Shown) → AreLive (dropped_by o m).placer kits live
+  pub live_dropped : (o : Option MetricFocusPair) → AreLive (dropped_by o m).placer kits live
   live_dropped None = a
   live_dropped (Some s) = live_done (Drops s.instrument.n) tt
 
-pub live_drops : (ns : List ℕ) (ss : List Shown) (m : Instrumented) (kits : List Kit) (live : List ℕ) → AreLive m.placer kits live → AreLive (dropped_tests ns ss m).placer kits live
+pub live_drops : (ns : List ℕ) (ss : List MetricFocusPair) (m : Instrumented) (kits : List Kit) (live : List ℕ) → AreLive m.placer kits live → AreLive (dropped_tests ns ss m).placer kits live
 live_drops [] ss m kits live a = a
 live_drops (n ∷ ns) ss m kits live a =
     live_drops ns ss (dropped_by (tester_of m.placer n ss) m) kits live (live_dropped m kits live a (tester_of m.placer n ss))
@@ -193,5 +193,5 @@ live_put p kits live k a l =
     }
 
 -- no pairs
-pub live_none : (p : Placements) → IsRoster p → AreLive p [] []
+pub live_none : (p : Placements) → AreNumbered p → AreLive p [] []
 live_none p r = record { roster = r; below = tt; places = tt }

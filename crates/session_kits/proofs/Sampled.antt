@@ -9,7 +9,7 @@ use Rattle.fold_hist.specs.Steps.{pushed}
 use Rattle.instrumented.specs.Instrumented.{Instrumented}
 use Rattle.machine.specs.Measures.{difference}
 use Rattle.w3_search.specs.declared.node.NodeSample.{NodeSample}
-use Rattle.session_spec.specs.declared.data.Latest.{Latest}
+use Rattle.session_spec.specs.declared.data.LatestSample.{LatestSample}
 use Rattle.session_spec.specs.Due.{is_armed}
 use Rattle.session_kits.specs.declared.kit.Kit.{Kit}
 use Rattle.session_kits.specs.Kits.{kit_bin, kit_latest, kit_reading, kit_sampled, kit_test, kit_test_by, kit_ticks, latest_by, test_by}
@@ -66,7 +66,7 @@ module _ (m : Instrumented) (time : ℕ) (k : Kit) where
   unfolding kit_latest
   latest_is place = by k.shown.node (is_armed m.placer k.shown)
     where
-      one : List Latest
+      one : List LatestSample
       one = record { shown = place; from = k.shown.from; to = time; sum = difference k.last (kit_reading m k) } ∷ []
 
       by : (o : Option ℕ) (b : Bool) → latest_by o place (cond b (Some one_bin) None) ≡ cond (is_none o && b) one []

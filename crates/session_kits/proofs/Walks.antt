@@ -5,7 +5,7 @@ use Rattle.std.specs.List.{AllByRecursion}
 use Rattle.fold_hist.specs.declared.bin.Bin.{Bin}
 use Rattle.instrumented.specs.Instrumented.{Instrumented}
 use Rattle.w3_search.specs.declared.node.NodeSample.{NodeSample}
-use Rattle.session_spec.specs.declared.data.Latest.{Latest}
+use Rattle.session_spec.specs.declared.data.LatestSample.{LatestSample}
 use Rattle.session_spec.specs.Due.{place_behind}
 use Rattle.session_kits.specs.declared.kit.Kit.{Kit}
 use Rattle.session_kits.specs.Kits.{HasFew, HasHarts, is_gone_test, kit_bin, kit_sampled, kit_ticks, kits_latest, kits_tests, latest_by, test_by}
@@ -28,7 +28,7 @@ behind_within None place = omega arith
 behind_within (Some n) place = omega arith
 
 -- The pairs before a place were sampled, of the old ones, and those from it on weren't yet; these are the samples so far.
-pub record AreSampled (m : Instrumented) (time : ℕ) (marks : List ℕ) (old : List Kit) (ls : List Latest) (ts : List NodeSample) (latest_now : List Latest) (tests_now : List NodeSample) (wished : ℕ)
+pub record AreSampled (m : Instrumented) (time : ℕ) (marks : List ℕ) (old : List Kit) (ls : List LatestSample) (ts : List NodeSample) (latest_now : List LatestSample) (tests_now : List NodeSample) (wished : ℕ)
     (front left : List Kit) : Type 0 where
   pub done : front ++ map (kit_sampled m time) left ≡ map (kit_sampled m time) old
   pub latest : latest_now ++ kits_latest m time wished left ≡ ls ++ kits_latest m time 0 old
@@ -36,28 +36,28 @@ pub record AreSampled (m : Instrumented) (time : ℕ) (marks : List ℕ) (old : 
   pub harts : AllByRecursion (HasHarts (length m.core.harts)) left
   pub few : AllByRecursion HasFew left
 
-module _ (m : Instrumented) (time : ℕ) (marks : List ℕ) (old : List Kit) (ls : List Latest) (ts : List NodeSample) where
+module _ (m : Instrumented) (time : ℕ) (marks : List ℕ) (old : List Kit) (ls : List LatestSample) (ts : List NodeSample) where
   -- a test that is gone stays what it is, and gives no sample
-  pub sampled_pass : (latest : List Latest) (tests : List NodeSample) (wished : ℕ) (front : List Kit) (k : Kit) (left : List Kit) → is_gone_test m.placer k ≡ true
+  pub sampled_pass : (latest : List LatestSample) (tests : List NodeSample) (wished : ℕ) (front : List Kit) (k : Kit) (left : List Kit) → is_gone_test m.placer k ≡ true
       → AreSampled m time marks old ls ts latest tests wished front (k ∷ left) → AreSampled m time marks old ls ts latest tests wished (front ++ k ∷ []) left
   sampled_pass latest tests wished front k left g h = record {
     done = append_assoc front (k ∷ []) (map (kit_sampled m time) left) ∙ (ap (λ (x : Kit). front ++ x ∷ map (kit_sampled m time) left) (sym (gone_sampled m k g time)) ∙ h.done);
-    latest = ap₂ (λ (xs : List Latest) (w : ℕ). latest ++ (xs ++ kits_latest m time w left)) (sym (gone_latest m k g time wished)) (sym (gone_place m.placer k g wished)) ∙ h.latest;
+    latest = ap₂ (λ (xs : List LatestSample) (w : ℕ). latest ++ (xs ++ kits_latest m time w left)) (sym (gone_latest m k g time wished)) (sym (gone_place m.placer k g wished)) ∙ h.latest;
     tests = ap (λ (xs : List NodeSample). tests ++ (xs ++ kits_tests m marks left)) (sym (gone_samples m k g marks)) ∙ h.tests;
     harts = (h.harts).1;
     few = (h.few).1;
   }
 
   -- a pair is sampled
-  module _ (latest : List Latest) (tests : List NodeSample) (wished : ℕ) (front : List Kit) (k : Kit) (left : List Kit) (h : AreSampled m time marks old ls ts latest tests wished front (k ∷ left))
+  module _ (latest : List LatestSample) (tests : List NodeSample) (wished : ℕ) (front : List Kit) (k : Kit) (left : List Kit) (h : AreSampled m time marks old ls ts latest tests wished front (k ∷ left))
       (bin : Option Bin) (is_bin : bin ≡ kit_bin m time k) where
-    latest_more : (now : List Latest) (next : ℕ) → now ≡ latest ++ latest_by k.shown.node wished bin → next ≡ place_behind k.shown.node wished
+    latest_more : (now : List LatestSample) (next : ℕ) → now ≡ latest ++ latest_by k.shown.node wished bin → next ≡ place_behind k.shown.node wished
         → now ++ kits_latest m time next left ≡ ls ++ kits_latest m time 0 old
     latest_more now next e n =
-        ap₂ (λ (xs : List Latest) (w : ℕ). xs ++ kits_latest m time w left) e n
+        ap₂ (λ (xs : List LatestSample) (w : ℕ). xs ++ kits_latest m time w left) e n
         ∙ (append_assoc latest (latest_by k.shown.node wished bin) (kits_latest m time (place_behind k.shown.node wished) left)
         ∙ (ap (λ (b : Option Bin). latest ++ (latest_by k.shown.node wished b ++ kits_latest m time (place_behind k.shown.node wished) left)) is_bin
-        ∙ (ap (λ (xs : List Latest). latest ++ (xs ++ kits_latest m time (place_behind k.shown.node wished) left)) (latest_is m time k wished) ∙ h.latest)))
+        ∙ (ap (λ (xs : List LatestSample). latest ++ (xs ++ kits_latest m time (place_behind k.shown.node wished) left)) (latest_is m time k wished) ∙ h.latest)))
 
     tests_more : (now : List NodeSample) → now ≡ tests ++ test_by k.shown.node (kit_ticks m marks k) bin → now ++ kits_tests m marks left ≡ ts ++ kits_tests m marks old
     tests_more now e =
@@ -66,7 +66,7 @@ module _ (m : Instrumented) (time : ℕ) (marks : List ℕ) (old : List Kit) (ls
         ∙ (ap (λ (b : Option Bin). tests ++ (test_by k.shown.node (kit_ticks m marks k) b ++ kits_tests m marks left)) is_bin
         ∙ (ap (λ (xs : List NodeSample). tests ++ (xs ++ kits_tests m marks left)) (test_is m time k marks) ∙ h.tests)))
 
-    pub sampled_more : (new : Kit) (now : List Latest) (now_tests : List NodeSample) (next : ℕ) → new ≡ kit_sampled m time k → now ≡ latest ++ latest_by k.shown.node wished bin
+    pub sampled_more : (new : Kit) (now : List LatestSample) (now_tests : List NodeSample) (next : ℕ) → new ≡ kit_sampled m time k → now ≡ latest ++ latest_by k.shown.node wished bin
         → now_tests ≡ tests ++ test_by k.shown.node (kit_ticks m marks k) bin → next ≡ place_behind k.shown.node wished
         → AreSampled m time marks old ls ts now now_tests next (front ++ new ∷ []) left
     sampled_more new now now_tests next is e t n = record {
@@ -78,7 +78,7 @@ module _ (m : Instrumented) (time : ℕ) (marks : List ℕ) (old : List Kit) (ls
     }
 
 -- all were
-pub all_sampled : {m : Instrumented} {time : ℕ} {marks : List ℕ} {old : List Kit} {ls : List Latest} {ts : List NodeSample} {latest : List Latest} {tests : List NodeSample} {wished : ℕ}
+pub all_sampled : {m : Instrumented} {time : ℕ} {marks : List ℕ} {old : List Kit} {ls : List LatestSample} {ts : List NodeSample} {latest : List LatestSample} {tests : List NodeSample} {wished : ℕ}
     {now : List Kit} → AreSampled m time marks old ls ts latest tests wished now []
     → (now ≡ map (kit_sampled m time) old) × (latest ≡ ls ++ kits_latest m time 0 old) × (tests ≡ ts ++ kits_tests m marks old)
 all_sampled {latest} {tests} {now} h = (sym (append-nil now) ∙ h.done, sym (append-nil latest) ∙ h.latest, sym (append-nil tests) ∙ h.tests)

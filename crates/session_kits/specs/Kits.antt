@@ -4,18 +4,18 @@ use Rattle.std.specs.Option.{option_map, option_map_or}
 use Rattle.std.specs.List.{range_with_len}
 use Rattle.fold_hist.specs.declared.bin.Bin.{Bin}
 use Rattle.fold_hist.specs.Steps.{pushed}
-use Rattle.instrumented.specs.Instrumented.{Instrumented, done}
+use Rattle.instrumented.specs.Instrumented.{Instrumented, after_act}
 use Rattle.instrument.specs.Placements.{Placements, instrument_at, state_of}
 use Rattle.instrument.specs.Scenes.{Drops}
 use Rattle.machine.specs.Measures.{difference}
 use Rattle.w3_search.specs.declared.node.NodeSample.{NodeSample}
-use Rattle.session_spec.specs.declared.data.Latest.{Latest}
-use Rattle.session_spec.specs.declared.data.Shown.{Shown}
+use Rattle.session_spec.specs.declared.data.LatestSample.{LatestSample}
+use Rattle.session_spec.specs.declared.data.MetricFocusPair.{MetricFocusPair}
 use Rattle.session_spec.specs.Due.{is_armed, is_ready, machine_armed, place_behind}
 use Rattle.session_spec.specs.Readings.{reading_by, ticks_between, ticks_of}
 use Rattle.session_spec.specs.Tests.{is_gone}
 use Rattle.session_spec.specs.Verdicts.{tester_of}
-use Rattle.session_spec.specs.Rosters.{AreBelow, IsRoster}
+use Rattle.session_spec.specs.Rosters.{AreBelow, AreNumbered}
 use Rattle.session_kits.specs.declared.kit.Kit.{Kit}
 
 -- what its instrument reads
@@ -40,13 +40,13 @@ kit_bin m time k =
     if is_armed m.placer k.shown then Some (record { from = k.shown.from; to = time; sum = difference k.last (kit_reading m k) }) else None
 
 -- that of a pair which was wished, with its place among those
-unfoldable pub kit_latest : Instrumented → ℕ → ℕ → Kit → List Latest
+unfoldable pub kit_latest : Instrumented → ℕ → ℕ → Kit → List LatestSample
 kit_latest m time place k =
     if is_none k.shown.node && is_armed m.placer k.shown
     then record { shown = place; from = k.shown.from; to = time; sum = difference k.last (kit_reading m k) } ∷ []
     else []
 
-abbrev pub kits_latest : Instrumented → ℕ → ℕ → List Kit → List Latest
+abbrev pub kits_latest : Instrumented → ℕ → ℕ → List Kit → List LatestSample
 kits_latest m time place [] = []
 kits_latest m time place (k ∷ ks) = kit_latest m time place k ++ kits_latest m time (place_behind k.shown.node place) ks
 
@@ -69,7 +69,7 @@ kits_tests m marks [] = []
 kits_tests m marks (k ∷ ks) = kit_test m marks k ++ kits_tests m marks ks
 
 -- as what a sample of a pair is recorded
-abbrev pub latest_by : Option ℕ → ℕ → Option Bin → List Latest
+abbrev pub latest_by : Option ℕ → ℕ → Option Bin → List LatestSample
 latest_by None place (Some b) = record { shown = place; from = b.from; to = b.to; sum = b.sum } ∷ []
 latest_by None place None = []
 latest_by (Some n) place bin = []
@@ -106,12 +106,12 @@ kits_armed time m (k ∷ ks) = kit_armed time m k ∷ kits_armed time (machine_a
 
 -- ---- drops
 
-abbrev pub dropped_by : Option Shown → Instrumented → Instrumented
+abbrev pub dropped_by : Option MetricFocusPair → Instrumented → Instrumented
 dropped_by None m = m
-dropped_by (Some s) m = done (Drops s.instrument.n) m
+dropped_by (Some s) m = after_act (Drops s.instrument.n) m
 
 -- the instruments that test these nodes are dropped, one after another
-abbrev pub dropped_tests : List ℕ → List Shown → Instrumented → Instrumented
+abbrev pub dropped_tests : List ℕ → List MetricFocusPair → Instrumented → Instrumented
 dropped_tests [] ss m = m
 dropped_tests (n ∷ ns) ss m = dropped_tests ns ss (dropped_by (tester_of m.placer n ss) m)
 
@@ -131,7 +131,7 @@ AreLiveFrom n p (k ∷ ks) (at ∷ live) =
 
 -- These places are those of all pairs but of some tests that are gone; and what is gone stays gone.
 pub record AreLive (p : Placements) (kits : List Kit) (live : List ℕ) : Type 0 where
-  pub roster : IsRoster p
+  pub roster : AreNumbered p
   pub below : AreBelow p.count (map (λ (k : Kit). k.shown) kits)
   pub places : AreLiveFrom 0 p kits live
 

@@ -1,13 +1,13 @@
 //! A pair of metric and focus with its instrument and its samples.
 
 use fold_hist::Hist;
-use session_spec::Shown;
+use session_spec::MetricFocusPair;
 
 /// A pair of metric and focus that is or was shown or tested, with its samples.
 #[derive(Drop)]
 pub struct Kit {
     /// The instrument, and from when on it is sampled next.
-    pub shown: Shown,
+    pub shown: MetricFocusPair,
     /// What it adds to the costs that the search's limit bounds, in words: the predicted cost of a test, and 0 where it was wished.
     pub cost: u64,
     /// The first hart of the focus.

@@ -20,7 +20,7 @@ use fold_hist::{Bin, Hist};
 use instrument::State;
 use instrumented::InstrumentedMachine;
 use machine::Sample;
-use session_spec::Latest;
+use session_spec::LatestSample;
 use w3_search::NodeSample;
 
 /// Returns the difference of two sums modulo 2^64.
@@ -90,13 +90,13 @@ fn sample_kit(
 }
 
 /// Appends a sample, if there is one, to those of what was wished. There is room for it.
-fn put_latest(list: &mut Vec<Latest>, node: Option<u32>, place: u32, bin: Option<Bin>)
+fn put_latest(list: &mut Vec<LatestSample>, node: Option<u32>, place: u32, bin: Option<Bin>)
     requires { vec_len list.old < vec_capacity list.old }
     ensures items { list.new.items ≡ list.old.items ++ latest_by node place bin }
     ensures room { vec_capacity list.old ≤ vec_capacity list.new }
 {
     if let (None, Some(bin)) = (node, bin) {
-        list.push_reserved(Latest {
+        list.push_reserved(LatestSample {
             shown: place,
             from: bin.from,
             to: bin.to,
@@ -154,7 +154,7 @@ pub fn sample_kits(
     time: u64,
     marks: &[u64],
     kits: &mut Kits,
-    latest: &mut Vec<Latest>,
+    latest: &mut Vec<LatestSample>,
     tests: &mut Vec<NodeSample>,
     sample: &mut Sample,
 )

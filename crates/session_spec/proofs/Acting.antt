@@ -5,12 +5,12 @@ use Rattle.machine.specs.Events.{Event}
 use Rattle.instrument.specs.Books.{freed_point}
 use Rattle.instrument.specs.Handing.{is_barred}
 use Rattle.instrument.specs.Numbers.{Admit, Drop, Next, NextFree, PutBack, Freed, called}
-use Rattle.instrument.specs.Placements.{Placements, armed, behind, free_behind, free_front, freed, front, is_leaving, put_back, state_of}
-use Rattle.instrument.specs.Scenes.{Act, Happens, Admits, Arms, Drops, Hands, Sweeps, Scene, arms, does, frees, hands, hands_by, sweeps}
+use Rattle.instrument.specs.Placements.{Placements, with_armed, after_first, free_behind, free_front, freed, front, is_leaving, put_back, state_of}
+use Rattle.instrument.specs.Scenes.{Act, Happens, Admits, Arms, Drops, Hands, Sweeps, InstrumentScene, arms, does, frees, hands, hands_by, sweeps}
 use Rattle.instrument.specs.declared.entry.Entry.{Entry}
 use Rattle.instrument.specs.declared.number.State.TheVariants.{Placing}
-use Rattle.instrumented.specs.Instrumented.{Instrumented, done, repeated, scene_of, taken}
-use Rattle.session_spec.specs.Rosters.{IsRoster}
+use Rattle.instrumented.specs.Instrumented.{Instrumented, after_act, repeated, scene_of, after_turns}
+use Rattle.session_spec.specs.Rosters.{AreNumbered}
 use Rattle.session_spec.proofs.Standing.{IsArming, Since, arming, listed_at, since_call, since_none, since_on}
 
 -- the act arms no instrument
@@ -22,8 +22,8 @@ IsNoArming (Drops n) = Unit {0}
 IsNoArming Hands = Unit {0}
 IsNoArming Sweeps = Unit {0}
 
-module _ (s : Scene) (r : IsRoster s.placer) where
-  since_next : Since s.placer (behind s.placer)
+module _ (s : InstrumentScene) (r : AreNumbered s.placer) where
+  since_next : Since s.placer (after_first s.placer)
   since_next = since_call Next tt s.placer r
 
   frees_since : (b : Bool) (point : ℕ) (q : Placements) → Since s.placer q → Since s.placer (frees b point q s).scene.placer
@@ -32,7 +32,7 @@ module _ (s : Scene) (r : IsRoster s.placer) where
 
   by_since : (o : Option ℕ) (e : Entry) → Since s.placer (hands_by o e s).scene.placer
   by_since None e = since_next
-  by_since (Some point) e = frees_since (is_barred s.core point) point (behind s.placer) since_next
+  by_since (Some point) e = frees_since (is_barred s.core point) point (after_first s.placer) since_next
 
   hands_since : (o : Option Entry) → Since s.placer (hands o s).scene.placer
   hands_since None = since_none s.placer r
@@ -52,39 +52,39 @@ module _ (s : Scene) (r : IsRoster s.placer) where
 
 -- ---- on a machine with its instruments
 
-pub done_since : (a : Act) → IsNoArming a → (m : Instrumented) → IsRoster m.placer → Since m.placer (done a m).placer
-unfolding done
+pub done_since : (a : Act) → IsNoArming a → (m : Instrumented) → AreNumbered m.placer → Since m.placer (after_act a m).placer
+unfolding after_act
 done_since a o m r = act_since (scene_of m) r a o
 
-pub repeated_since : (n : ℕ) (a : Act) → IsNoArming a → (m : Instrumented) → IsRoster m.placer → Since m.placer (repeated n a m).placer
+pub repeated_since : (n : ℕ) (a : Act) → IsNoArming a → (m : Instrumented) → AreNumbered m.placer → Since m.placer (repeated n a m).placer
 repeated_since zero a o m r = since_none m.placer r
 repeated_since (suc n) a o m r =
     let d = done_since a o m r in
-    since_on m.placer (done a m).placer (repeated n a (done a m)).placer d (repeated_since n a o (done a m) d.roster)
+    since_on m.placer (after_act a m).placer (repeated n a (after_act a m)).placer d (repeated_since n a o (after_act a m) d.roster)
 
 -- turns don't touch the instruments
-happened_placer : (e : Event) (m : Instrumented) → (done (Happens e) m).placer ≡ m.placer
-unfolding done
+happened_placer : (e : Event) (m : Instrumented) → (after_act (Happens e) m).placer ≡ m.placer
+unfolding after_act
 happened_placer e m = refl
 
-pub taken_placer : (turns : List Event) (m : Instrumented) → (taken turns m).placer ≡ m.placer
+pub taken_placer : (turns : List Event) (m : Instrumented) → (after_turns turns m).placer ≡ m.placer
 taken_placer [] m = refl
-taken_placer (e ∷ turns) m = taken_placer turns (done (Happens e) m) ∙ happened_placer e m
+taken_placer (e ∷ turns) m = taken_placer turns (after_act (Happens e) m) ∙ happened_placer e m
 
 -- what an admission makes
-pub admitted_placer : (plan : _) (cost : Option ℕ) (m : Instrumented) → (done (Admits plan cost) m).placer ≡ called (Admit plan cost) m.placer
-unfolding done
+pub admitted_placer : (plan : _) (cost : Option ℕ) (m : Instrumented) → (after_act (Admits plan cost) m).placer ≡ called (Admit plan cost) m.placer
+unfolding after_act
 admitted_placer plan cost m = refl
 
-pub dropped_placer : (n : ℕ) (m : Instrumented) → (done (Drops n) m).placer ≡ called (Drop n) m.placer
-unfolding done
+pub dropped_placer : (n : ℕ) (m : Instrumented) → (after_act (Drops n) m).placer ≡ called (Drop n) m.placer
+unfolding after_act
 dropped_placer n m = refl
 
 -- an instrument that is being placed is armed
-pub arms_placer : (n : ℕ) (m : Instrumented) → IsRoster m.placer → state_of m.placer n ≡ Placing → IsArming n m.placer (done (Arms n) m).placer
-unfolding done
+pub arms_placer : (n : ℕ) (m : Instrumented) → AreNumbered m.placer → state_of m.placer n ≡ Placing → IsArming n m.placer (after_act (Arms n) m).placer
+unfolding after_act
 arms_placer n m r e =
     let l = listed_at m.placer n (ap is_leaving e) in
     subst (IsArming n m.placer)
-    (sym (ap (λ o. (arms o (scene_of m)).scene.placer) l.is ∙ ap (λ k. armed k m.placer) l.no))
+    (sym (ap (λ o. (arms o (scene_of m)).scene.placer) l.is ∙ ap (λ k. with_armed k m.placer) l.no))
     (arming n m.placer r)

@@ -7,21 +7,21 @@ use Rattle.pn_types.specs.declared.focus.Focus.{Focus}
 use Rattle.pn_types.specs.declared.plan.Plan.{Plan}
 use Rattle.rv_mem.specs.Start.{program_of}
 use Rattle.machine.specs.Cores.{In, Core, start_core}
-use Rattle.machine.specs.Effects.{after}
+use Rattle.machine.specs.Effects.{after_event}
 use Rattle.machine.specs.Events.{Event}
 use Rattle.machine.specs.Replays.{replay}
 use Rattle.machine.proofs.Lists.{find_gives, get_append, in_snoc}
 use Rattle.machine.proofs.Steps.{fixed}
 use Rattle.instrument.specs.Placements.{Placements, admission, state_of}
-use Rattle.instrument.specs.Scenes.{Act, Admits, Drops, IsPlanFor, Scene, admits, does, events_of, first_scene}
+use Rattle.instrument.specs.Scenes.{Act, Admits, Drops, IsPlanFor, InstrumentScene, admits, does, events_of, first_scene}
 use Rattle.instrument.specs.declared.instrument.Instrument.{Instrument}
 use Rattle.instrument.specs.declared.number.State.TheVariants.{Armed, Placing}
 use Rattle.instrument.proofs.Folds.{append_nil}
 use Rattle.instrument.proofs.Numbers as numbers
-use Rattle.instrumented.specs.Instrumented.{Instrumented, done, scene_with}
+use Rattle.instrumented.specs.Instrumented.{Instrumented, after_act, scene_with}
 use Rattle.instrumented.specs.Readings.{scene_at}
 use Rattle.instrumented.proofs.Acts.{done_is, leads_on, plans_behind, whole_of}
-use Rattle.session_spec.specs.declared.data.Shown.{Shown}
+use Rattle.session_spec.specs.declared.data.MetricFocusPair.{MetricFocusPair}
 use Rattle.session_spec.specs.Inputs.{Inputs, planned}
 use Rattle.session_spec.specs.Due.{is_armed}
 use Rattle.session_spec.specs.Plans.{IsGood}
@@ -35,19 +35,19 @@ use Rattle.session_spec.proofs.Tied.{idle_on, same_own}
 
 -- ---- lists
 
-same_length : (i : Inputs) (acts : List Act) (ss : List Shown) (lasts : List ℕ) → AreShown i acts ss lasts → length ss ≡ length lasts
+same_length : (i : Inputs) (acts : List Act) (ss : List MetricFocusPair) (lasts : List ℕ) → AreShown i acts ss lasts → length ss ≡ length lasts
 same_length i acts [] [] k = refl
 same_length i acts [] (last ∷ lasts) k = absurd k
 same_length i acts (s ∷ ss) [] k = absurd k
 same_length i acts (s ∷ ss) (last ∷ lasts) k = ap suc (same_length i acts ss lasts k.1)
 
-pub none_shown : (i : Inputs) (acts : List Act) (ss : List Shown) (lasts : List ℕ) → AreShown i acts ss lasts → lasts_with ss lasts ≡ lasts
+pub none_shown : (i : Inputs) (acts : List Act) (ss : List MetricFocusPair) (lasts : List ℕ) → AreShown i acts ss lasts → lasts_with ss lasts ≡ lasts
 none_shown i acts ss lasts k =
     let e = same_length i acts ss lasts k in
     let z : length ss - length lasts ≡ 0 = omega arith in
     ap (λ n. lasts ++ replicate n 0) z ∙ append_nil lasts
 
-one_shown : (i : Inputs) (acts : List Act) (ss : List Shown) (s : Shown) (lasts : List ℕ) → AreShown i acts ss lasts → lasts_with (ss ++ s ∷ []) lasts ≡ lasts ++ 0 ∷ []
+one_shown : (i : Inputs) (acts : List Act) (ss : List MetricFocusPair) (s : MetricFocusPair) (lasts : List ℕ) → AreShown i acts ss lasts → lasts_with (ss ++ s ∷ []) lasts ≡ lasts ++ 0 ∷ []
 one_shown i acts ss s lasts k =
     let e = same_length i acts ss lasts k in
     let l = length-append ss (s ∷ []) in
@@ -55,26 +55,26 @@ one_shown i acts ss s lasts k =
     let z : length (ss ++ s ∷ []) - length lasts ≡ 1 = omega arith in
     ap (λ n. lasts ++ replicate n 0) z
 
-snoc_shown : (i : Inputs) (acts : List Act) (ss : List Shown) (lasts : List ℕ) (s : Shown) → AreShown i acts ss lasts → IsShown i acts s 0
+snoc_shown : (i : Inputs) (acts : List Act) (ss : List MetricFocusPair) (lasts : List ℕ) (s : MetricFocusPair) → AreShown i acts ss lasts → IsShown i acts s 0
     → AreShown i acts (ss ++ s ∷ []) (lasts ++ 0 ∷ [])
 snoc_shown i acts [] [] s k one = (one, tt)
 snoc_shown i acts [] (last ∷ lasts) s k one = absurd k
 snoc_shown i acts (x ∷ ss) [] s k one = absurd k
 snoc_shown i acts (x ∷ ss) (last ∷ lasts) s k one = (k.0, snoc_shown i acts ss lasts s k.1 one)
 
-snoc_apart : (ss : List Shown) (s : Shown) → AreApart ss → IsOther s ss → AreApart (ss ++ s ∷ [])
+snoc_apart : (ss : List MetricFocusPair) (s : MetricFocusPair) → AreApart ss → IsOther s ss → AreApart (ss ++ s ∷ [])
 snoc_apart [] s a o = ((λ t h. absurd h), tt)
 snoc_apart (x ∷ ss) s a o =
-    ((λ t h e. ⊎_elim (λ k. a.0 t k e) (λ (k : t ≡ s). o x (inl refl) (sym e ∙ ap (λ (u : Shown). u.instrument.n) k)) (in_snoc ss s t h)), snoc_apart ss s a.1 (λ t h. o t (inr h)))
+    ((λ t h e. ⊎_elim (λ k. a.0 t k e) (λ (k : t ≡ s). o x (inl refl) (sym e ∙ ap (λ (u : MetricFocusPair). u.instrument.n) k)) (in_snoc ss s t h)), snoc_apart ss s a.1 (λ t h. o t (inr h)))
 
-below : (i : Inputs) (acts : List Act) (ss : List Shown) (lasts : List ℕ) → AreShown i acts ss lasts → (s : Shown) → In s ss
+below : (i : Inputs) (acts : List Act) (ss : List MetricFocusPair) (lasts : List ℕ) → AreShown i acts ss lasts → (s : MetricFocusPair) → In s ss
     → s.instrument.n < (scene_at (opening_of i) acts).placer.count
 below i acts [] lasts k s h = absurd h
 below i acts (x ∷ ss) [] k s h = absurd k
-below i acts (x ∷ ss) (last ∷ lasts) k s (inl e) = subst (λ (u : Shown). u.instrument.n < (scene_at (opening_of i) acts).placer.count) (sym e) (k.0).number
+below i acts (x ∷ ss) (last ∷ lasts) k s (inl e) = subst (λ (u : MetricFocusPair). u.instrument.n < (scene_at (opening_of i) acts).placer.count) (sym e) (k.0).number
 below i acts (x ∷ ss) (last ∷ lasts) k s (inr h) = below i acts ss lasts k.1 s h
 
-twice : (n p : List Shown) (lasts : List ℕ) → length lasts ≤ length n → length n ≤ length p → lasts_with p (lasts_with n lasts) ≡ lasts_with p lasts
+twice : (n p : List MetricFocusPair) (lasts : List ℕ) → length lasts ≤ length n → length n ≤ length p → lasts_with p (lasts_with n lasts) ≡ lasts_with p lasts
 twice n p lasts l k =
     let a = length-append lasts (replicate (length n - length lasts) 0) in
     let b : length (replicate {A = ℕ} (length n - length lasts) 0) ≡ length n - length lasts = length-replicate (length n - length lasts) 0 in
@@ -85,11 +85,11 @@ twice n p lasts l k =
     ∙ ap (λ (l : List ℕ). lasts ++ l) (ap (λ (q : ℕ). first ++ replicate q 0) c ∙ (replicate-append-replicate (length n - length lasts) (length p - length n) 0 ∙ ap (λ q. replicate q 0) d))
 
 -- as many as are shown
-pub many_lasts : (i : Inputs) (m : Instrumented) (own : List ℕ) (ss : List Shown) (lasts : List ℕ) → IsTied i m own ss lasts → length ss ≡ length lasts
+pub many_lasts : (i : Inputs) (m : Instrumented) (own : List ℕ) (ss : List MetricFocusPair) (lasts : List ℕ) → IsTied i m own ss lasts → length ss ≡ length lasts
 many_lasts i m own ss lasts t = same_length i t.acts ss lasts t.shown
 
 -- none is shown no longer
-pub more_shown : (i : Inputs) (m : Instrumented) (own : List ℕ) (ss : List Shown) (lasts : List ℕ) → IsTied i m own ss (lasts_with ss lasts) → length lasts ≤ length ss
+pub more_shown : (i : Inputs) (m : Instrumented) (own : List ℕ) (ss : List MetricFocusPair) (lasts : List ℕ) → IsTied i m own ss (lasts_with ss lasts) → length lasts ≤ length ss
 more_shown i m own ss lasts t =
     let a = length-append lasts (replicate (length ss - length lasts) 0) in
     let k = many_lasts i m own ss (lasts_with ss lasts) t in
@@ -99,9 +99,9 @@ more_shown i m own ss lasts t =
 
 replay_fixed : (es : List Event) (c : Core) → (replay es c).program ≡ c.program
 replay_fixed [] c = refl
-replay_fixed (e ∷ es) c = replay_fixed es (after c e) ∙ (fixed c e).0
+replay_fixed (e ∷ es) c = replay_fixed es (after_event c e) ∙ (fixed c e).0
 
-pub program_is : (i : Inputs) (m : Instrumented) (own : List ℕ) (ss : List Shown) (lasts : List ℕ) → IsTied i m own ss lasts → m.core.program ≡ program_of i.image
+pub program_is : (i : Inputs) (m : Instrumented) (own : List ℕ) (ss : List MetricFocusPair) (lasts : List ℕ) → IsTied i m own ss lasts → m.core.program ≡ program_of i.image
 program_is i m own ss lasts t =
     let w = whole_of i.image i.settings.harts i.settings.budget i.settings.instruments t.acts m t.plans t.program t.leads in
     ap (λ (c : Core). c.program) w.core ∙ replay_fixed (events_of t.acts (first_scene i.image i.settings.harts i.settings.budget i.settings.instruments)) (start_core i.image i.settings.harts i.settings.budget)
@@ -109,13 +109,13 @@ program_is i m own ss lasts t =
 -- ---- steps
 
 -- From what is shown on a machine to what is shown on it then: it is tied, no hart was touched, and what is armed was before.
-pub record IsMoved (i : Inputs) (own lasts : List ℕ) (m : Instrumented) (ss : List Shown) (d : Instrumented) (ts : List Shown) : Type 0 where
+pub record IsMoved (i : Inputs) (own lasts : List ℕ) (m : Instrumented) (ss : List MetricFocusPair) (d : Instrumented) (ts : List MetricFocusPair) : Type 0 where
   pub tied : IsTied i d own ts (lasts_with ts lasts)
   pub core : d.core ≡ m.core
-  pub back : (s : Shown) → In s ts → is_armed d.placer s ≡ true → In s ss × (is_armed m.placer s ≡ true)
+  pub back : (s : MetricFocusPair) → In s ts → is_armed d.placer s ≡ true → In s ss × (is_armed m.placer s ≡ true)
 
 -- one step and another
-pub moved_on : (i : Inputs) (own lasts : List ℕ) (m d e : Instrumented) (ss ts us : List Shown) → IsMoved i own lasts m ss d ts
+pub moved_on : (i : Inputs) (own lasts : List ℕ) (m d e : Instrumented) (ss ts us : List MetricFocusPair) → IsMoved i own lasts m ss d ts
     → IsMoved i own (lasts_with ts lasts) d ts e us → IsMoved i own lasts m ss e us
 moved_on i own lasts m d e ss ts us a b =
     let l1 = more_shown i d own ts lasts a.tied in
@@ -127,17 +127,17 @@ moved_on i own lasts m d e ss ts us a b =
       back = λ s h k. let z = b.back s h k in a.back s z.0 z.1;
     }
 
-module _ (i : Inputs) (m : Instrumented) (own : List ℕ) (ss : List Shown) (lasts : List ℕ) (t : IsTied i m own ss lasts) where
+module _ (i : Inputs) (m : Instrumented) (own : List ℕ) (ss : List MetricFocusPair) (lasts : List ℕ) (t : IsTied i m own ss lasts) where
   -- nothing changed
   pub same_moved : IsMoved i own lasts m ss m ss
   same_moved = record { tied = subst (IsTied i m own ss) (sym (none_shown i t.acts ss lasts t.shown)) t; core = refl; back = λ s h k. (h, k) }
 
   -- an instrument is dropped
-  pub drops_moved : (n : ℕ) → (state_of m.placer n ≡ Placing) ⊎ (state_of m.placer n ≡ Armed) → IsMoved i own lasts m ss (done (Drops n) m) ss
+  pub drops_moved : (n : ℕ) → (state_of m.placer n ≡ Placing) ⊎ (state_of m.placer n ≡ Armed) → IsMoved i own lasts m ss (after_act (Drops n) m) ss
   drops_moved n stands =
       let d = idle_on i m own ss lasts (Drops n) tt stands (λ u h. tt) t in
       record {
-        tied = subst (IsTied i (done (Drops n) m) own ss) (sym (none_shown i t.acts ss lasts t.shown)) d;
+        tied = subst (IsTied i (after_act (Drops n) m) own ss) (sym (none_shown i t.acts ss lasts t.shown)) d;
         core = ap (λ (x : Instrumented). x.core) (done_is (Drops n) m);
         back = λ s h k. (h, armed_back i m own (led_of i m own ss lasts t) (Drops n) s tt k);
       }
@@ -150,7 +150,7 @@ module _ (i : Inputs) (m : Instrumented) (own : List ℕ) (ss : List Shown) (las
     abbrev acts : List Act
     acts = t.acts ++ a ∷ []
 
-    abbrev new : Shown
+    abbrev new : MetricFocusPair
     new = record { instrument = record { n = m.placer.count }; node = node; metric = metric; focus = focus; armed = None; from = 0 }
 
     -- the scene after it
@@ -174,19 +174,19 @@ module _ (i : Inputs) (m : Instrumented) (own : List ℕ) (ss : List Shown) (las
           plan = plan;
           planned = is_planned;
           good = good;
-          listed = subst (λ (z : Scene). slice_get z.plans m.placer.count ≡ Some plan) (sym scene_is) (subst (λ n. slice_get (t.plans ++ plan ∷ []) n ≡ Some plan) w.orderly.many (get_append t.plans plan));
-          number = subst (λ (z : Scene). m.placer.count < z.placer.count) (sym scene_is) (let up = more in omega arith);
+          listed = subst (λ (z : InstrumentScene). slice_get z.plans m.placer.count ≡ Some plan) (sym scene_is) (subst (λ n. slice_get (t.plans ++ plan ∷ []) n ≡ Some plan) w.orderly.many (get_append t.plans plan));
+          number = subst (λ (z : InstrumentScene). m.placer.count < z.placer.count) (sym scene_is) (let up = more in omega arith);
           armed = λ x h e q_is.
-              let at = subst (λ (z : Scene). In x z.placer.instruments) (scene_on (opening_of i) t.acts a) h in
+              let at = subst (λ (z : InstrumentScene). In x z.placer.instruments) (scene_on (opening_of i) t.acts a) h in
               let before = armed_before (scene_at (opening_of i) t.acts) x q_is a tt at in
-              absurd (unnumbered before.i (subst (λ (z : Scene). In before.i z.placer.instruments) (t.leads).scene before.listed) (before.no ∙ e));
+              absurd (unnumbered before.i (subst (λ (z : InstrumentScene). In before.i z.placer.instruments) (t.leads).scene before.listed) (before.no ∙ e));
           read = λ h. absurd cc;
         }
 
     others : IsOther new ss
     others u h e =
         let low = below i t.acts ss lasts t.shown u h in
-        let count = ap (λ (z : Scene). z.placer.count) (t.leads).scene in
+        let count = ap (λ (z : InstrumentScene). z.placer.count) (t.leads).scene in
         omega arith
 
     -- it isn't armed
@@ -196,7 +196,7 @@ module _ (i : Inputs) (m : Instrumented) (own : List ℕ) (ss : List Shown) (las
         let g = find_gives (λ (x : Instrument). x.no == m.placer.count) m.placer.instruments f.x f.is in
         unnumbered f.x g.0 (eqb-true (f.x).no m.placer.count g.1)
 
-    pub admits_moved : IsMoved i own lasts m ss (done a m) (ss ++ new ∷ [])
+    pub admits_moved : IsMoved i own lasts m ss (after_act a m) (ss ++ new ∷ [])
     admits_moved =
         let can : IsPlanFor m.core.program plan = subst (λ p. IsPlanFor p plan) (sym (program_is i m own ss lasts t)) good.for in
         let shown = snoc_shown i acts ss lasts new (all_on i t.acts a ss lasts (λ u h. tt) t.shown) first in
@@ -213,5 +213,5 @@ module _ (i : Inputs) (m : Instrumented) (own : List ℕ) (ss : List Shown) (las
           core = ap (λ (x : Instrumented). x.core) (done_is a m);
           back = λ s h k.
               let was = armed_back i m own (led_of i m own ss lasts t) a s tt k in
-              ⊎_elim (λ (z : In s ss). (z, was)) (λ (z : s ≡ new). absurd (unarmed (subst (λ (u : Shown). is_armed m.placer u ≡ true) z was))) (in_snoc ss new s h);
+              ⊎_elim (λ (z : In s ss). (z, was)) (λ (z : s ≡ new). absurd (unarmed (subst (λ (u : MetricFocusPair). is_armed m.placer u ≡ true) z was))) (in_snoc ss new s h);
         }

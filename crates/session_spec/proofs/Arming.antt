@@ -6,10 +6,10 @@ use Rattle.instrument.specs.Placements.{state_of}
 use Rattle.instrument.specs.Scenes.{Arms}
 use Rattle.instrument.specs.declared.number.State.{State as Stage}
 use Rattle.instrument.specs.declared.number.State.TheVariants.{Placing, Armed, Leaving, Gone}
-use Rattle.instrumented.specs.Instrumented.{Instrumented, done, is_linked}
-use Rattle.session_spec.specs.declared.data.Shown.{Shown}
+use Rattle.instrumented.specs.Instrumented.{Instrumented, after_act, is_linked}
+use Rattle.session_spec.specs.declared.data.MetricFocusPair.{MetricFocusPair}
 use Rattle.session_spec.specs.Due.{is_placing, is_ready}
-use Rattle.session_spec.specs.Rosters.{IsRoster}
+use Rattle.session_spec.specs.Rosters.{AreNumbered}
 use Rattle.session_spec.proofs.Standing.{IsArming}
 use Rattle.session_spec.proofs.Acting.{arms_placer}
 
@@ -20,8 +20,8 @@ placing_is Leaving e = absurd (true≢false (sym e))
 placing_is Gone e = absurd (true≢false (sym e))
 
 -- one that is ready is being placed
-pub ready_placing : (m : Instrumented) (s : Shown) → is_ready m s ≡ true → state_of m.placer s.instrument.n ≡ Placing
+pub ready_placing : (m : Instrumented) (s : MetricFocusPair) → is_ready m s ≡ true → state_of m.placer s.instrument.n ≡ Placing
 ready_placing m s e = placing_is (state_of m.placer s.instrument.n) (and_parts (is_placing (state_of m.placer s.instrument.n)) (is_linked m s.instrument.n) e).0
 
-pub ready_arms : (m : Instrumented) (s : Shown) → IsRoster m.placer → is_ready m s ≡ true → IsArming s.instrument.n m.placer (done (Arms s.instrument.n) m).placer
+pub ready_arms : (m : Instrumented) (s : MetricFocusPair) → AreNumbered m.placer → is_ready m s ≡ true → IsArming s.instrument.n m.placer (after_act (Arms s.instrument.n) m).placer
 ready_arms m s r e = arms_placer s.instrument.n m r (ready_placing m s e)

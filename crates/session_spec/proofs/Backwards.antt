@@ -7,8 +7,8 @@ use Rattle.machine.specs.Cores.{In}
 use Rattle.machine.proofs.Lists.{find_gives, in_map, in_filter}
 use Rattle.instrument.specs.Books.{freed_point}
 use Rattle.instrument.specs.Handing.{is_barred}
-use Rattle.instrument.specs.Placements.{Placements, admission, behind, free_behind, free_front, front, instrument_at, with_state}
-use Rattle.instrument.specs.Scenes.{Act, Happens, Admits, Arms, Drops, Hands, Sweeps, Scene, admits, arms, does, frees, hands, hands_by, sweeps}
+use Rattle.instrument.specs.Placements.{Placements, admission, after_first, free_behind, free_front, front, instrument_at, with_state}
+use Rattle.instrument.specs.Scenes.{Act, Happens, Admits, Arms, Drops, Hands, Sweeps, InstrumentScene, admits, arms, does, frees, hands, hands_by, sweeps}
 use Rattle.instrument.specs.declared.entry.Entry.{Entry}
 use Rattle.instrument.specs.declared.instrument.Instrument.{Instrument}
 use Rattle.instrument.specs.declared.number.Refused.{Refused}
@@ -52,7 +52,7 @@ mapped m q is j n h a =
         absurd (n same (sym (ap (λ b. cond b q i.state) e) ∙ (sym (ap (λ (i : Instrument). i.state) k) ∙ a)))
     by i false e k = sym (ap (λ b. cond b q i.state) e) ∙ (sym (ap (λ (i : Instrument). i.state) k) ∙ a)
 
-module _ (s : Scene) (j : Instrument) (a : j.state ≡ Armed) where
+module _ (s : InstrumentScene) (j : Instrument) (a : j.state ≡ Armed) where
   admits_back : (plan : Plan) (cost : Option ℕ) (r : Result Placements Refused) → admission s.placer plan cost ≡ r → In j (admits plan r s).scene.placer.instruments → HasArmed s.placer.instruments j.no
   admits_back plan cost (Err x) e h = itself s.placer.instruments j h a
   admits_back plan cost (Ok q) e h =
@@ -74,7 +74,7 @@ module _ (s : Scene) (j : Instrument) (a : j.state ≡ Armed) where
 
   by_back : (o : Option ℕ) (e : Entry) → In j (hands_by o e s).scene.placer.instruments → HasArmed s.placer.instruments j.no
   by_back None e h = itself s.placer.instruments j h a
-  by_back (Some p) e h = frees_back (is_barred s.core p) p (behind s.placer) refl h
+  by_back (Some p) e h = frees_back (is_barred s.core p) p (after_first s.placer) refl h
 
   hands_back : (o : Option Entry) → In j (hands o s).scene.placer.instruments → HasArmed s.placer.instruments j.no
   hands_back None h = itself s.placer.instruments j h a

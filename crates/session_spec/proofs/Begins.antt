@@ -11,11 +11,11 @@ use Rattle.machine.specs.Laws.{IsProgram}
 use Rattle.machine.proofs.Arming.{get_map}
 use Rattle.rv_exec.specs.Start.{start}
 use Rattle.instrument.specs.Scenes.{Hands}
-use Rattle.instrumented.specs.Instrumented.{Instrumented, done, repeated}
+use Rattle.instrumented.specs.Instrumented.{Instrumented, after_act, repeated}
 use Rattle.instrumented.proofs.Harts.{hands_same}
-use Rattle.session_spec.specs.declared.data.Shown.{Shown}
+use Rattle.session_spec.specs.declared.data.MetricFocusPair.{MetricFocusPair}
 use Rattle.session_spec.specs.Inputs.{Inputs, first_wishes}
-use Rattle.session_spec.specs.States.{Kept, first_kept}
+use Rattle.session_spec.specs.States.{SessionState, first_kept}
 use Rattle.session_spec.specs.Opening.{wished, with_agenda}
 use Rattle.session_spec.specs.Due.{all_armed, arm_all, with_arms}
 use Rattle.session_spec.specs.Tests.{with_tests}
@@ -23,7 +23,7 @@ use Rattle.session_spec.specs.Work.{first_state}
 use Rattle.session_spec.specs.Ties.{IsTied}
 use Rattle.session_spec.specs.Plans.{ArePlansGood}
 use Rattle.session_spec.specs.Readings.{lasts_armed, lasts_with}
-use Rattle.session_spec.specs.Reads.{AreFromLast, IsSound, marks_of, ticks_by}
+use Rattle.session_spec.specs.Reads.{AreFromLast, IsSoundState, marks_of, ticks_by}
 use Rattle.session_spec.proofs.Armings.{arms_tied}
 use Rattle.session_spec.proofs.Lasting.{armed_last, hands_back, led_of}
 use Rattle.session_spec.proofs.Testing.{tests_moved, tests_once}
@@ -43,12 +43,12 @@ first_quiet i h x e = let k = get_map first_hart (start i.image i.settings.harts
 
 pub all_quiet : (n : ℕ) (m : Instrumented) → IsQuiet m.core → IsQuiet (repeated n Hands m).core
 all_quiet zero m q = q
-all_quiet (suc n) m q = all_quiet n (done Hands m) (λ h x e. q h x (subst (λ hs. slice_get hs h ≡ Some x) (hands_same m) e))
+all_quiet (suc n) m q = all_quiet n (after_act Hands m) (λ h x e. q h x (subst (λ hs. slice_get hs h ≡ Some x) (hands_same m) e))
 
 -- ---- the first admission
 
 -- after the wishes at tick 0, and the first nodes of the search
-abbrev pub picked : Inputs → Kept
+abbrev pub picked : Inputs → SessionState
 picked i = with_tests i (wished i)
 
 picked_once : (i : Inputs) → IsAtOnce (first_kept i) (picked i)
@@ -64,7 +64,7 @@ picked_moved i p good =
 -- ---- the opening
 
 -- none has a sample
-none_recorded : (ss : List Shown) → length (map {B = List Bin} (λ s. []) ss) ≡ length ss
+none_recorded : (ss : List MetricFocusPair) → length (map {B = List Bin} (λ s. []) ss) ≡ length ss
 none_recorded ss = length-map ss (λ s. [])
 
 -- nor has a hart a tick
@@ -79,7 +79,7 @@ first_marks i = ap (λ own. map (ticks_by own) (range_with_len 0 i.settings.hart
 abbrev pub opened_lasts : Inputs → List ℕ
 opened_lasts i = lasts_armed i (with_agenda (picked i)).machine (with_agenda (picked i)).shown (lasts_with (picked i).shown [])
 
-pub opens : (i : Inputs) → IsProgram i.image → ArePlansGood i → IsSound i (first_state i) (opened_lasts i)
+pub opens : (i : Inputs) → IsProgram i.image → ArePlansGood i → IsSoundState i (first_state i) (opened_lasts i)
 unfolding with_agenda with_arms
 opens i p good =
     let k = picked i in

@@ -11,8 +11,8 @@ use Rattle.machine.specs.Events.{IsQuiet}
 use Rattle.instrumented.specs.Instrumented.{Instrumented}
 use Rattle.resource_tree.specs.Foci as foci
 use Rattle.w3_search.specs.declared.node.NodeSample.{NodeSample}
-use Rattle.session_spec.specs.declared.data.Shown.{Shown}
-use Rattle.session_spec.specs.Inputs.{Inputs, harts_of}
+use Rattle.session_spec.specs.declared.data.MetricFocusPair.{MetricFocusPair}
+use Rattle.session_spec.specs.Inputs.{Inputs, harts_of_focus}
 use Rattle.session_spec.specs.Due.{is_armed}
 use Rattle.session_spec.specs.Verdicts.{node_sample, node_samples, node_samples_by, ticks_in}
 use Rattle.session_spec.specs.Ties.{AreShown, IsShown, IsTied}
@@ -81,10 +81,10 @@ index_is f harts none h = ⊎_elim
 
 -- which focus it is
 focus_ticks : (i : Inputs) (focus : Focus) (marks now xs : List ℕ) → ((h : ℕ) → slice_index now h - slice_index marks h ≡ ticks_by xs h)
-    → ticks_between (harts_of i focus) marks now ≡ length (filter (is_among (harts_of i focus)) xs)
-focus_ticks i focus marks now xs e = among_range marks now xs e (foci.harts_of i.tree.harts focus.hart).0 (foci.harts_of i.tree.harts focus.hart).1
+    → ticks_between (harts_of_focus i focus) marks now ≡ length (filter (is_among (harts_of_focus i focus)) xs)
+focus_ticks i focus marks now xs e = among_range marks now xs e (foci.harts_of_node i.tree.harts focus.hart).0 (foci.harts_of_node i.tree.harts focus.hart).1
 
-module _ (i : Inputs) (m : Instrumented) (own : List ℕ) (all : List Shown) (every : List ℕ) (t : IsTied i m own all every) (last : ℕ) where
+module _ (i : Inputs) (m : Instrumented) (own : List ℕ) (all : List MetricFocusPair) (every : List ℕ) (t : IsTied i m own all every) (last : ℕ) where
   abbrev marks : List ℕ
   marks = map (ticks_by (take last own)) (range_with_len 0 i.settings.harts)
 
@@ -98,13 +98,13 @@ module _ (i : Inputs) (m : Instrumented) (own : List ℕ) (all : List Shown) (ev
       let both = parts h in
       omega arith
 
-  ticks_are : (s : Shown) → s.from ≡ last → ticks_between (harts_of i s.focus) marks (ticks_of m) ≡ ticks_in own (harts_of i s.focus) s.from (length own)
+  ticks_are : (s : MetricFocusPair) → s.from ≡ last → ticks_between (harts_of_focus i s.focus) marks (ticks_of m) ≡ ticks_in own (harts_of_focus i s.focus) s.from (length own)
   ticks_are s e =
       focus_ticks i s.focus marks (ticks_of m) (drop last own) ticks_since
-      ∙ (ap (λ (l : List ℕ). length (filter (is_among (harts_of i s.focus)) l)) (sym (take_rest own last)) ∙ ap (λ b. ticks_in own (harts_of i s.focus) b (length own)) (sym e))
+      ∙ (ap (λ (l : List ℕ). length (filter (is_among (harts_of_focus i s.focus)) l)) (sym (take_rest own last)) ∙ ap (λ b. ticks_in own (harts_of_focus i s.focus) b (length own)) (sym e))
 
   module _ (quiet : IsQuiet m.core) (low : i.settings.budget ≤ MAX_BUDGET) where
-    one_node : (s : Shown) (read : ℕ) → IsShown i t.acts s read → (is_armed m.placer s ≡ true → s.from ≡ last) → (o : Option ℕ)
+    one_node : (s : MetricFocusPair) (read : ℕ) → IsShown i t.acts s read → (is_armed m.placer s ≡ true → s.from ≡ last) → (o : Option ℕ)
         → node_read_by o i m (length own) marks s read ≡ node_samples_by o i m.placer own (length own) s
     one_node s read k f None = refl
     one_node s read k f (Some n) = by (is_armed m.placer s) refl
@@ -114,7 +114,7 @@ module _ (i : Inputs) (m : Instrumented) (own : List ℕ) (all : List Shown) (ev
         by true e = ap₂ (λ (value ticks : ℕ). record { node = n; from = s.from; value = value; ticks = ticks } ∷ []) (sample_is i m own all every t quiet low s read k e) (ticks_are s (f e))
         by false e = refl
 
-    pub nodes_are : (ss : List Shown) (lasts : List ℕ) → AreShown i t.acts ss lasts → AreFromLast m.placer last ss
+    pub nodes_are : (ss : List MetricFocusPair) (lasts : List ℕ) → AreShown i t.acts ss lasts → AreFromLast m.placer last ss
         → nodes_read i m (length own) marks ss lasts ≡ node_samples i m.placer own (length own) ss
     nodes_are [] [] k f = refl
     nodes_are [] (read ∷ lasts) k f = absurd k

@@ -7,7 +7,7 @@ use Rattle.pn_types.specs.declared.pick.BarCause.{BarCause}
 use Rattle.w3_search.specs.declared.node.Node.{Node}
 use Rattle.w3_search.specs.declared.node.NodeState.{NodeState}
 use Rattle.w3_search.specs.declared.node.NodeState.TheVariants.{Waiting, Active, Confirmed, Rejected, Unfinished, Barred}
-use Rattle.w3_search.specs.Nodes.{finished, is_open, new_node, unfinished}
+use Rattle.w3_search.specs.Nodes.{node_at_end, is_open, new_node, unfinished}
 use Rattle.session_spec.specs.Inputs.{Inputs}
 use Rattle.session_spec.specs.Searches.{rules_of}
 use Rattle.session_spec.proofs.Grown.{Each, get_map}
@@ -51,13 +51,13 @@ module _ (i : Inputs) (owns : List ℕ) where
 
   -- ---- the end of the search
 
-  same_end : (n : Node) → is_open n.state ≡ false → finished n ≡ n
+  same_end : (n : Node) → is_open n.state ≡ false → node_at_end n ≡ n
   same_end n e = ap (λ (s : NodeState). record n { state = s }) (cond-false (is_open n.state) (Unfinished n.seen) n.state e)
 
-  open_end : (n : Node) → IsNode i owns n → is_open n.state ≡ true → IsUnjudged i (finished n)
+  open_end : (n : Node) → IsNode i owns n → is_open n.state ≡ true → IsUnjudged i (node_at_end n)
   open_end n o e = inr (cond-true (is_open n.state) (Unfinished n.seen) n.state e, o.few e)
 
-  closed_is : (n : Node) → IsNode i owns n → (s : NodeState) → n.state ≡ s → IsRuled i owns (finished n) ⊎ IsUnjudged i (finished n)
+  closed_is : (n : Node) → IsNode i owns n → (s : NodeState) → n.state ≡ s → IsRuled i owns (node_at_end n) ⊎ IsUnjudged i (node_at_end n)
   closed_is n o Waiting e = inr (open_end n o (ap is_open e))
   closed_is n o Active e = inr (open_end n o (ap is_open e))
   closed_is n o Confirmed e = inl (subst (IsRuled i owns) (sym (same_end n (ap is_open e))) (o.judged (ap is_judged e)))
@@ -67,7 +67,7 @@ module _ (i : Inputs) (owns : List ℕ) where
       let u = o.unfinished k e in
       inr (inr (ap (λ (z : Node). z.state) (same_end n (ap is_open e)) ∙ (e ∙ ap (λ (j : ℕ). Unfinished j) u.0), u.1))
 
-  pub told_ends : (ns : List Node) → Each (IsNode i owns) ns → Each (λ n. IsRuled i owns n ⊎ IsUnjudged i n) (map finished ns)
+  pub told_ends : (ns : List Node) → Each (IsNode i owns) ns → Each (λ n. IsRuled i owns n ⊎ IsUnjudged i n) (map node_at_end ns)
   told_ends ns all k m e =
-      let b = get_map finished ns k m e in
+      let b = get_map node_at_end ns k m e in
       subst (λ n. IsRuled i owns n ⊎ IsUnjudged i n) b.2 (closed_is b.0 (all k b.0 b.1) b.0.state refl)

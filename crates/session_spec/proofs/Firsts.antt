@@ -17,7 +17,7 @@ use Rattle.mdl_check.specs.Names.{constraint_named}
 use Rattle.mdl_plan.specs.Active.{Active, active_of, both, constraint_for, in_hierarchy, is_below, wanted}
 use Rattle.mdl_plan.specs.Pieces.{base_initially, counters, counting, replacement, replacing}
 use Rattle.mdl_plan.specs.Plans.{at_first, counter_var, opens_of, scene_of, sites_of, vars_of}
-use Rattle.mdl_plan.specs.Starts.{started}
+use Rattle.mdl_plan.specs.Starts.{started_plan}
 use Rattle.mdl_plan.specs.declared.fault.PlanFault.{PlanFault}
 use Rattle.mdl_plan.proofs.Limits.{plan_is}
 use Rattle.resource_tree.specs.Foci.{part}
@@ -120,7 +120,7 @@ module _ (N : ℕ → Type 0) where
   metric_at (x ∷ ms) zero m k e = let same : x ≡ m = cc in subst (λ (y : Metric). N (at_first y.initially)) same k.0
   metric_at (x ∷ ms) (suc n) m k e = metric_at ms n m k.1 e
 
-  started_first : (start : Start) (plan : Plan) → AllByRecursion (λ v. N v.initially) plan.vars → AllByRecursion (λ v. N v.initially) (started start plan).vars
+  started_first : (start : Start) (plan : Plan) → AllByRecursion (λ v. N v.initially) plan.vars → AllByRecursion (λ v. N v.initially) (started_plan start plan).vars
   started_first Cold plan k = k
   started_first Warm plan k = k
 

@@ -6,11 +6,11 @@ use Rattle.machine.specs.Events.{IsQuiet}
 use Rattle.machine.specs.Replays.{owns}
 use Rattle.machine.specs.States.{quantum_turns, settling}
 use Rattle.machine.proofs.Settled.{settled_quiet}
-use Rattle.instrumented.specs.Instrumented.{Instrumented, taken}
+use Rattle.instrumented.specs.Instrumented.{Instrumented, after_turns}
 use Rattle.instrumented.proofs.Turns.{are_taken, machine_reached, quantum_all, quantum_legal, settling_all, settling_legal}
-use Rattle.session_spec.specs.declared.data.Shown.{Shown}
+use Rattle.session_spec.specs.declared.data.MetricFocusPair.{MetricFocusPair}
 use Rattle.session_spec.specs.Inputs.{Inputs}
-use Rattle.session_spec.specs.States.{Kept}
+use Rattle.session_spec.specs.States.{SessionState}
 use Rattle.session_spec.specs.Admission.{with_admission, with_wish, with_wishes}
 use Rattle.session_spec.specs.Tests.{with_tests}
 use Rattle.session_spec.specs.Ties.{IsTied}
@@ -25,12 +25,12 @@ use Rattle.session_spec.proofs.Tied.{turns_tied}
 use Rattle.session_spec.proofs.Wishing.{IsAtOnce, Moves, on, once_on, wish_once, wishes_moved, wishes_once}
 
 -- a wish takes no time
-pub wish_time : (i : Inputs) (w : CheckedWish) (k : Kept) → (with_wish i w k).time ≡ k.time
+pub wish_time : (i : Inputs) (w : CheckedWish) (k : SessionState) → (with_wish i w k).time ≡ k.time
 wish_time i w k = (wish_once i w k).time
 
 -- ---- an admission: no time passes in it, and it keeps the tie
 
-pub admission_once : (i : Inputs) (k : Kept) → IsAtOnce k (with_admission i k)
+pub admission_once : (i : Inputs) (k : SessionState) → IsAtOnce k (with_admission i k)
 unfolding with_admission
 admission_once i k = by k.worked
   where
@@ -41,7 +41,7 @@ admission_once i k = by k.worked
         record { time = all.time; last = all.last }
     by false = record { time = refl; last = refl }
 
-pub admission_moved : (i : Inputs) → ArePlansGood i → (own lasts : List ℕ) (k : Kept) → IsTied i k.machine own k.shown lasts → Moves i own lasts k (with_admission i k)
+pub admission_moved : (i : Inputs) → ArePlansGood i → (own lasts : List ℕ) (k : SessionState) → IsTied i k.machine own k.shown lasts → Moves i own lasts k (with_admission i k)
 unfolding with_admission
 admission_moved i good own lasts k t = by k.worked
   where
@@ -54,15 +54,15 @@ admission_moved i good own lasts k t = by k.worked
 
 -- ---- turns
 
-pub hart_tied : (n h : ℕ) (i : Inputs) (m : Instrumented) (own : List ℕ) (ss : List Shown) (lasts : List ℕ) → IsTied i m own ss lasts → IsTied i (taken (quantum_turns n h m.core) m) (own ++ owns (quantum_turns n h m.core) m.core) ss lasts
+pub hart_tied : (n h : ℕ) (i : Inputs) (m : Instrumented) (own : List ℕ) (ss : List MetricFocusPair) (lasts : List ℕ) → IsTied i m own ss lasts → IsTied i (after_turns (quantum_turns n h m.core) m) (own ++ owns (quantum_turns n h m.core) m.core) ss lasts
 hart_tied n h i m own ss lasts t = turns_tied (quantum_turns n h m.core) i m own ss lasts (quantum_all n h m.core) (quantum_legal n h m) t
 
 -- settled, and quiet
-pub record IsQuietTied (i : Inputs) (m : Instrumented) (own : List ℕ) (ss : List Shown) (lasts : List ℕ) : Type 0 where
-  pub tied : IsTied i (taken (settling m.core) m) (own ++ owns (settling m.core) m.core) ss lasts
-  pub quiet : IsQuiet (taken (settling m.core) m).core
+pub record IsQuietTied (i : Inputs) (m : Instrumented) (own : List ℕ) (ss : List MetricFocusPair) (lasts : List ℕ) : Type 0 where
+  pub tied : IsTied i (after_turns (settling m.core) m) (own ++ owns (settling m.core) m.core) ss lasts
+  pub quiet : IsQuiet (after_turns (settling m.core) m).core
 
-pub quiet_tied : (i : Inputs) (m : Instrumented) (own : List ℕ) (ss : List Shown) (lasts : List ℕ) → IsTied i m own ss lasts → IsQuietTied i m own ss lasts
+pub quiet_tied : (i : Inputs) (m : Instrumented) (own : List ℕ) (ss : List MetricFocusPair) (lasts : List ℕ) → IsTied i m own ss lasts → IsQuietTied i m own ss lasts
 quiet_tied i m own ss lasts t =
     let r = led_reached i m own (led_of i m own ss lasts t) in
     let legal = settling_legal m r in

@@ -16,11 +16,11 @@ use Rattle.rv_word.specs.Plain.{program_word}
 use Rattle.prim_code.specs.Counts.{predicted}
 use Rattle.prim_code.specs.Fitting.{AreStmtsOf, IsMeasurable}
 use Rattle.mdl_ast.specs.declared.metric.Metric.{Metric}
-use Rattle.mdl_check.specs.Sound.{IsSound}
+use Rattle.mdl_check.specs.Sound.{IsSoundCheck}
 use Rattle.mdl_plan.specs.Active.{Active, active_of}
 use Rattle.mdl_plan.specs.Fitting.{HasLowObjects, most_words}
 use Rattle.mdl_plan.specs.Plans.{IsPlanOver, IsSiteOf, opens_of, plan_at, scene_of, sites_of, vars_of}
-use Rattle.mdl_plan.specs.Starts.{started, started_if}
+use Rattle.mdl_plan.specs.Starts.{started_plan, started_if}
 use Rattle.mdl_plan.specs.declared.fault.PlanFault.{PlanFault}
 use Rattle.mdl_plan.proofs.FittingStmts.{scene_stmts}
 use Rattle.mdl_plan.proofs.Limits.{answer_over, plan_is}
@@ -72,7 +72,7 @@ pub record IsFrom (i : Inputs) (metric : ℕ) (focus : Focus) (plan : Plan) : Ty
   pub there : slice_get i.checked.metrics metric ≡ Some m
   pub active : active_of i.checked.constraints m focus ≡ Ok a
   pub is : plan_at i.tree focus i.procs i.points m (Ok a) ≡ Ok whole
-  pub starts : started i.settings.start whole ≡ plan
+  pub starts : started_plan i.settings.start whole ≡ plan
 
 pub plan_from : (i : Inputs) (metric : ℕ) (focus : Focus) (plan : Plan) → planned i metric focus ≡ Ok plan → IsFrom i metric focus plan
 unfolding planned
@@ -109,7 +109,7 @@ pub record IsSoundPlan (i : Inputs) (plan : Plan) : Type 0 where
   pub slots : slot_count plan.vars < 2 ^ 32
 
 -- and what starts cold
-started_sound : (i : Inputs) (start : Start) (plan : Plan) → IsSoundPlan i plan → IsSoundPlan i (started start plan)
+started_sound : (i : Inputs) (start : Start) (plan : Plan) → IsSoundPlan i plan → IsSoundPlan i (started_plan start plan)
 started_sound i Warm plan k = k
 started_sound i Cold plan k = record {
   for = record { sites = (k.for).sites; stmts = (k.for).stmts };
@@ -119,7 +119,7 @@ started_sound i Cold plan k = record {
   slots = k.slots;
 }
 
-module _ (i : Inputs) (sound : IsSound i.checked) (low : HasLowObjects i.tree) (rise : IsStrictlyIncreasing (map (λ p. p.at) i.points)) (inside : AreWords i) where
+module _ (i : Inputs) (sound : IsSoundCheck i.checked) (low : HasLowObjects i.tree) (rise : IsStrictlyIncreasing (map (λ p. p.at) i.points)) (inside : AreWords i) where
   whole_sound : (metric : ℕ) (focus : Focus) (plan : Plan) → (f : IsFrom i metric focus plan) → IsSoundPlan i f.whole
   whole_sound metric focus plan f =
       let m = f.m in

@@ -13,8 +13,8 @@ use Rattle.w3_axes.specs.Refining.{children, roots}
 use Rattle.w3_search.specs.declared.node.Node.{Node}
 use Rattle.w3_search.specs.declared.node.NodeState.{NodeState}
 use Rattle.w3_search.specs.declared.node.NodeState.TheVariants.{Active, Unfinished}
-use Rattle.w3_search.specs.Nodes.{changed, in_state, is_active, is_confirmed, is_free, is_open, is_waiting, new_node, numbers_from, place, unfinished, with_node}
-use Rattle.w3_search.specs.Steps.{SearchData, active_in, begun, with_all_families, with_children, with_families, with_family, with_family_of, with_phases, with_roots}
+use Rattle.w3_search.specs.Nodes.{with_node_changed, in_state, is_active, is_confirmed, is_free, is_open, is_waiting, new_node, numbers_from, place, unfinished, with_node}
+use Rattle.w3_search.specs.Steps.{SearchData, active_in, with_next_phase, with_all_families, with_children, with_families, with_family, with_family_of, with_phases, with_roots}
 use Rattle.w3_search.proofs.Changes.{all_children, all_roots}
 
 -- ---- lists of nodes
@@ -47,12 +47,12 @@ map_get f [] i n e = cc
 map_get f (x ∷ ns) zero n e = let s : x ≡ n = cc in ap (λ (y : Node). Some (f y)) s
 map_get f (x ∷ ns) (suc i) n e = map_get f ns i n e
 
-pub changed_here : (f : Node → Node) (ns : List Node) (i : ℕ) (n : Node) → slice_get ns i ≡ Some n → slice_get (changed f i ns) i ≡ Some (f n)
+pub changed_here : (f : Node → Node) (ns : List Node) (i : ℕ) (n : Node) → slice_get ns i ≡ Some n → slice_get (with_node_changed f i ns) i ≡ Some (f n)
 changed_here f [] i n e = cc
 changed_here f (x ∷ ns) zero n e = let s : x ≡ n = cc in ap (λ (y : Node). Some (f y)) s
 changed_here f (x ∷ ns) (suc i) n e = changed_here f ns i n e
 
-pub changed_there : (f : Node → Node) (ns : List Node) (i j : ℕ) → (j ≡ i → ⊥) → slice_get (changed f i ns) j ≡ slice_get ns j
+pub changed_there : (f : Node → Node) (ns : List Node) (i j : ℕ) → (j ≡ i → ⊥) → slice_get (with_node_changed f i ns) j ≡ slice_get ns j
 changed_there f [] i j e = refl
 changed_there f (x ∷ ns) zero zero e = absurd (e refl)
 changed_there f (x ∷ ns) zero (suc j) e = refl
@@ -104,26 +104,26 @@ grows_on P C D ns ms os g h c = record {
 
 -- a node that waits is in another state
 pub grows_state : (P : Node → Type 0) (C : ℕ → Type 0) (ns : List Node) (k : ℕ) (x : Node) (state : NodeState) → slice_get ns k ≡ Some x → is_waiting x.state ≡ true
-    → (P x → P (in_state state x)) → Grows P C ns (changed (in_state state) k ns)
+    → (P x → P (in_state state x)) → Grows P C ns (with_node_changed (in_state state) k ns)
 grows_state P C ns k x state e w p = record {
   forth = λ i y f. forth i y f (cases_eq i k);
   each = λ a i m f. each a i m f (cases_eq i k);
 }
   where
-    forth : (i : ℕ) (y : Node) → slice_get ns i ≡ Some y → (i ≡ k) ⊎ (i ≡ k → ⊥) → IsAged C (changed (in_state state) k ns) i y
+    forth : (i : ℕ) (y : Node) → slice_get ns i ≡ Some y → (i ≡ k) ⊎ (i ≡ k → ⊥) → IsAged C (with_node_changed (in_state state) k ns) i y
     forth i y f (inl q) =
         let same : x ≡ y = some_same x y (sym e ∙ (ap (slice_get ns) (sym q) ∙ f)) in
         let waits : is_waiting y.state ≡ true = sym (ap (λ (z : Node). is_waiting z.state) same) ∙ w in
         record {
           m = in_state state x;
-          stands = ap (slice_get (changed (in_state state) k ns)) q ∙ changed_here (in_state state) ns k x e;
+          stands = ap (slice_get (with_node_changed (in_state state) k ns)) q ∙ changed_here (in_state state) ns k x e;
           same = inr (λ a. absurd (true≢false (sym waits ∙ ap is_waiting a)));
           aged = λ o. absurd (true≢false (sym waits ∙ o));
         }
     forth i y f (inr q) = record { m = y; stands = changed_there (in_state state) ns k i q ∙ f; same = inl refl; aged = λ o. o }
 
-    each : Each P ns → (i : ℕ) (m : Node) → slice_get (changed (in_state state) k ns) i ≡ Some m → (i ≡ k) ⊎ (i ≡ k → ⊥) → P m
-    each a i m f (inl q) = subst P (some_same (in_state state x) m (sym (changed_here (in_state state) ns k x e) ∙ (ap (slice_get (changed (in_state state) k ns)) (sym q) ∙ f))) (p (a k x e))
+    each : Each P ns → (i : ℕ) (m : Node) → slice_get (with_node_changed (in_state state) k ns) i ≡ Some m → (i ≡ k) ⊎ (i ≡ k → ⊥) → P m
+    each a i m f (inl q) = subst P (some_same (in_state state x) m (sym (changed_here (in_state state) ns k x e) ∙ (ap (slice_get (with_node_changed (in_state state) k ns)) (sym q) ∙ f))) (p (a k x e))
     each a i m f (inr q) = a i m (sym (changed_there (in_state state) ns k i q) ∙ f)
 
 -- ---- nodes that are made, and that end
@@ -201,9 +201,9 @@ module _ (P : Node → Type 0) (new : (q : ℕ) (parent : Option ℕ) (h : ℕ) 
     each = λ a i m e. let b = get_map (unfinished q) ns i m e in subst P b.2 (old q b.0 (a i b.0 b.1));
   }
 
-  grows_begun : (v : SearchData) → Grows P (λ i. In i (begun v).drops) v.nodes (begun v).nodes
+  grows_begun : (v : SearchData) → Grows P (λ i. In i (with_next_phase v).drops) v.nodes (with_next_phase v).nodes
   grows_begun v =
-      let C = λ (i : ℕ). In i (begun v).drops in
+      let C = λ (i : ℕ). In i (with_next_phase v).drops in
       grows_roots C (v.present + 1) (roots v.rules.hypotheses) v.nodes (map (unfinished v.present) v.nodes)
       (grows_ended C v.present v.nodes (λ i h. append_right v.drops (active_in v.present v.nodes) i h))
 
@@ -215,7 +215,7 @@ module _ (P : Node → Type 0) (new : (q : ℕ) (parent : Option ℕ) (h : ℕ) 
   pub steps_phases : (t : ℕ) (ps : List PhaseDecl) (v : SearchData) → Steps P v (with_phases t ps v)
   steps_phases t [] v = record { rules = refl; drops = λ i h. h; grows = grows_none P (λ i. In i v.drops) v.nodes }
   steps_phases t (p ∷ ps) v =
-      cond_both (nat_le p.at t) (with_phases t ps (begun v)) v (Steps P v)
-      (λ _. steps_on P v (begun v) (with_phases t ps (begun v))
-      (record { rules = refl; drops = λ i h. append_left v.drops (active_in v.present v.nodes) i h; grows = grows_begun v }) (steps_phases t ps (begun v)))
+      cond_both (nat_le p.at t) (with_phases t ps (with_next_phase v)) v (Steps P v)
+      (λ _. steps_on P v (with_next_phase v) (with_phases t ps (with_next_phase v))
+      (record { rules = refl; drops = λ i h. append_left v.drops (active_in v.present v.nodes) i h; grows = grows_begun v }) (steps_phases t ps (with_next_phase v)))
       (λ _. record { rules = refl; drops = λ i h. h; grows = grows_none P (λ i. In i v.drops) v.nodes })

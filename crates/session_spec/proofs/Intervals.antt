@@ -11,7 +11,7 @@ use Rattle.pn_types.specs.declared.plan.Plan.{Plan}
 use Rattle.rv_mem.specs.Start.{program_of}
 use Rattle.rv_exec.specs.Start.{start}
 use Rattle.machine.proofs.Sums.{measures_add}
-use Rattle.session_spec.specs.Inputs.{Inputs, harts_of}
+use Rattle.session_spec.specs.Inputs.{Inputs, harts_of_focus}
 use Rattle.session_spec.proofs.Measuring.{measure_more, measure_none}
 use Rattle.session_spec.specs.Due.{measure_at}
 use Rattle.session_spec.specs.Bins.{AreMeasured, IsMeasured}
@@ -23,7 +23,7 @@ pub record IsSpan (i : Inputs) (owns : List ℕ) (plan : Plan) (focus : Focus) (
   pub behind : a ≤ b.from
   pub ordered : b.from ≤ b.to
   pub past : b.to ≤ length owns
-  pub sum : b.sum ≡ measure_at i owns plan (harts_of i focus) a b.from b.to
+  pub sum : b.sum ≡ measure_at i owns plan (harts_of_focus i focus) a b.from b.to
 
 -- Intervals that follow one another from time b to time c.
 abbrev pub AreSpans : Inputs → List ℕ → Plan → Focus → ℕ → ℕ → List Bin → ℕ → Type 0
@@ -55,7 +55,7 @@ module _ (i : Inputs) (plan : Plan) (focus : Focus) (a : ℕ) where
         behind = m.behind;
         ordered = m.ordered;
         past = omega (arith, length-append owns more);
-        sum = m.sum ∙ sym (measure_more (program_of i.image) plan (harts_of i focus) a b.from b.to owns more (start i.image i.settings.harts) m.behind m.ordered past);
+        sum = m.sum ∙ sym (measure_more (program_of i.image) plan (harts_of_focus i focus) a b.from b.to owns more (start i.image i.settings.harts) m.behind m.ordered past);
       }
 
   pub all_longer : (owns more : List ℕ) (b : ℕ) (xs : List Bin) (c : ℕ) → AreSpans i owns plan focus a b xs c → AreSpans i (owns ++ more) plan focus a b xs c
@@ -98,19 +98,19 @@ module _ (i : Inputs) (plan : Plan) (focus : Focus) (a : ℕ) where
     ends_all b x [] c h = h.2
     ends_all b x (y ∷ xs) c h = ends_all x.to y xs c h.2
 
-    sums_all : (b : ℕ) (xs : List Bin) (c : ℕ) → AreSpans i owns plan focus a b xs c → sum_by (λ x. x.sum) xs % 2 ^ 64 ≡ measure_at i owns plan (harts_of i focus) a b c
+    sums_all : (b : ℕ) (xs : List Bin) (c : ℕ) → AreSpans i owns plan focus a b xs c → sum_by (λ x. x.sum) xs % 2 ^ 64 ≡ measure_at i owns plan (harts_of_focus i focus) a b c
     sums_all b [] c h =
-        let z = measure_none (program_of i.image) plan (harts_of i focus) a b owns (start i.image i.settings.harts) in
-        sym z ∙ ap (λ (d : ℕ). measure_at i owns plan (harts_of i focus) a b d) h
+        let z = measure_none (program_of i.image) plan (harts_of_focus i focus) a b owns (start i.image i.settings.harts) in
+        sym z ∙ ap (λ (d : ℕ). measure_at i owns plan (harts_of_focus i focus) a b d) h
     sums_all b (x ∷ xs) c h =
-        let first : x.sum ≡ measure_at i owns plan (harts_of i focus) a b x.to = h.1.sum ∙ ap (λ (d : ℕ). measure_at i owns plan (harts_of i focus) a d x.to) h.0 in
+        let first : x.sum ≡ measure_at i owns plan (harts_of_focus i focus) a b x.to = h.1.sum ∙ ap (λ (d : ℕ). measure_at i owns plan (harts_of_focus i focus) a d x.to) h.0 in
         let rest = sums_all x.to xs c h.2 in
         let both : (x.sum + sum_by (λ y. y.sum) xs) % 2 ^ 64 ≡ (x.sum + sum_by (λ y. y.sum) xs % 2 ^ 64) % 2 ^ 64 = omega arith in
         ap (λ (v : ℕ). v % 2 ^ 64) (sum_by-cons (λ (y : Bin). y.sum) x xs)
         ∙ (both
         ∙ (ap (λ (v : ℕ). (x.sum + v) % 2 ^ 64) rest
-        ∙ (ap (λ (v : ℕ). (v + measure_at i owns plan (harts_of i focus) a x.to c) % 2 ^ 64) first
-        ∙ measures_add.times (program_of i.image) plan (harts_of i focus) a b x.to c owns (start i.image i.settings.harts))))
+        ∙ (ap (λ (v : ℕ). (v + measure_at i owns plan (harts_of_focus i focus) a x.to c) % 2 ^ 64) first
+        ∙ measures_add.times (program_of i.image) plan (harts_of_focus i focus) a b x.to c owns (start i.image i.settings.harts))))
 
     one_bin : (b : ℕ) (x : Bin) (xs : List Bin) (c : ℕ) → x.from < x.to → AreSpans i owns plan focus a b (x ∷ xs) c → IsMeasured i owns plan focus a (bin_of (x ∷ xs))
     one_bin b x xs c some h =
@@ -123,7 +123,7 @@ module _ (i : Inputs) (plan : Plan) (focus : Focus) (a : ℕ) where
           ordered = omega (arith, ends, ordered, some);
           past = omega (arith, ends, past);
           sum = sums_all b (x ∷ xs) c h
-              ∙ (ap (λ (d : ℕ). measure_at i owns plan (harts_of i focus) a d c) (sym begins) ∙ ap (λ (d : ℕ). measure_at i owns plan (harts_of i focus) a x.from d) (sym ends));
+              ∙ (ap (λ (d : ℕ). measure_at i owns plan (harts_of_focus i focus) a d c) (sym begins) ∙ ap (λ (d : ℕ). measure_at i owns plan (harts_of_focus i focus) a x.from d) (sym ends));
         }
 
     pieces_measured : (fuel w b : ℕ) (xs : List Bin) (c : ℕ) → 0 < w → length xs ≤ fuel → NoneEmpty xs → AreSpans i owns plan focus a b xs c

@@ -10,15 +10,15 @@ use Rattle.instrumented.specs.Instrumented.{repeated}
 use Rattle.w3_search.specs.declared.node.Node.{Node}
 use Rattle.w3_search.specs.declared.node.NodeSample.{NodeSample}
 use Rattle.w3_search.specs.Nodes.{active_of, is_active, is_active_at}
-use Rattle.w3_search.specs.Steps.{Rules, SearchData, ended, search_step, with_all_families, with_all_samples, with_samples}
-use Rattle.session_spec.specs.declared.data.Shown.{Shown}
+use Rattle.w3_search.specs.Steps.{Rules, SearchData, ended_tests, search_step, with_all_families, with_all_samples, with_samples}
+use Rattle.session_spec.specs.declared.data.MetricFocusPair.{MetricFocusPair}
 use Rattle.session_spec.specs.Inputs.{Inputs}
 use Rattle.session_spec.specs.Searches.{rules_of}
-use Rattle.session_spec.specs.States.{Kept}
+use Rattle.session_spec.specs.States.{SessionState}
 use Rattle.session_spec.specs.Due.{all_armed, arm_all, sampled_to, with_arms, with_frees}
 use Rattle.session_spec.specs.Due as due
 use Rattle.session_spec.specs.Verdicts.{node_samples, with_verdicts, without_tests}
-use Rattle.session_spec.specs.Rosters.{AreBelow, IsRoster}
+use Rattle.session_spec.specs.Rosters.{AreBelow, AreNumbered}
 use Rattle.session_spec.proofs.Acting.{repeated_since}
 use Rattle.session_spec.proofs.Likes.{AreLike, below_like, below_more, like_armed, like_on, like_sampled}
 use Rattle.session_spec.proofs.Grown.{Each, Steps, number_in, steps_families, steps_on, steps_phases}
@@ -32,16 +32,16 @@ use Rattle.session_spec.proofs.Ends.{new_is, unfinished_is}
 
 -- ---- what is sampled, and maybe freed and armed since
 
-pub record IsReady (i : Inputs) (owns : List ℕ) (k a : Kept) : Type 0 where
+pub record IsReady (i : Inputs) (owns : List ℕ) (k a : SessionState) : Type 0 where
   pub search : a.search ≡ k.search
   pub time : a.time ≡ k.time
-  pub roster : IsRoster a.machine.placer
+  pub roster : AreNumbered a.machine.placer
   pub below : AreBelow a.machine.placer.count a.shown
   pub like : AreLike k.shown a.shown
   pub tests : (ns : List Node) (ds : List ℕ) → AreTests i owns k.machine.placer ns (λ n. In n ds) (map (sampled_to k.machine.placer k.time) k.shown)
       → AreTests i owns a.machine.placer ns (λ n. In n ds) a.shown
 
-module _ (i : Inputs) (owns : List ℕ) (k : Kept) (s : IsSeen i owns k) where
+module _ (i : Inputs) (owns : List ℕ) (k : SessionState) (s : IsSeen i owns k) where
   pub ready_samples : IsReady i owns k (due.with_samples k)
   unfolding due.with_samples
   ready_samples =
@@ -82,28 +82,28 @@ module _ (i : Inputs) (owns : List ℕ) (k : Kept) (s : IsSeen i owns k) where
       any : ℕ → Type 0
       any n = Unit {0}
 
-      none : (ss : List Shown) → AreTests i owns k.machine.placer [] any ss
+      none : (ss : List MetricFocusPair) → AreTests i owns k.machine.placer [] any ss
       none [] = tt
       none (x ∷ ss) = ((λ n e l. inl tt), none ss)
 
 -- ---- what is told of the nodes that ended
 
 -- a node that was under test and isn't any more is told
-in_ended : (before now : List Node) (n : ℕ) (x : Node) → slice_get before n ≡ Some x → is_active x.state ≡ true → IsEnded now n → In n (ended before now)
+in_ended : (before now : List Node) (n : ℕ) (x : Node) → slice_get before n ≡ Some x → is_active x.state ≡ true → IsEnded now n → In n (ended_tests before now)
 in_ended before now n x e a o =
     let was : In n (active_of before) = subst (λ (j : ℕ). In j (active_of before)) (omega arith) (number_in (λ y. is_active y.state) 0 before n x e a) in
     let isnt : is_active_at now n ≡ false = ap (λ (z : Option Node). option_map_or (λ y. is_active y.state) z false) o.stands ∙ o.ended in
     filter_in (λ j. not (is_active_at now j)) (active_of before) n was (ap not isnt)
 
 module _ (i : Inputs) (owns : List ℕ) (p : Placements) (time : ℕ) (ns ms : List Node) where
-  tests_ended : (xs ys : List Shown) → AreLike xs ys → AreTests i owns p ns no_node xs → AreTests i owns p ms (IsEnded ms) ys → AreTests i owns p ms (λ n. In n (ended ns ms)) ys
+  tests_ended : (xs ys : List MetricFocusPair) → AreLike xs ys → AreTests i owns p ns no_node xs → AreTests i owns p ms (IsEnded ms) ys → AreTests i owns p ms (λ n. In n (ended_tests ns ms)) ys
   tests_ended [] [] l h g = tt
   tests_ended [] (y ∷ ys) l h g = absurd l
   tests_ended (x ∷ xs) [] l h g = absurd l
   tests_ended (x ∷ xs) (y ∷ ys) l h g = (
     (λ n e s.
-        let node : x.node ≡ Some n = sym (ap (λ (z : Shown). z.node) l.0) ∙ e in
-        let live = sym (ap (λ (z : Shown). is_leaving (state_of p z.instrument.n)) l.0) ∙ s in
+        let node : x.node ≡ Some n = sym (ap (λ (z : MetricFocusPair). z.node) l.0) ∙ e in
+        let live = sym (ap (λ (z : MetricFocusPair). is_leaving (state_of p z.instrument.n)) l.0) ∙ s in
         ⊎_elim
         (λ d. ⊎_elim (λ z. absurd z) (λ (o : IsTest i owns (state_of p x.instrument.n) ns n x). inl (in_ended ns ms n o.node o.stands (ap is_active o.active) d)) (h.0 n node live))
         (λ t. inr t) (g.0 n e s)),
@@ -116,7 +116,7 @@ taken_all ns ms (t ∷ ts) f a = ((λ n e. f n (a.0 n e)), taken_all ns ms ts f 
 
 -- ---- the step of the search
 
-module _ (i : Inputs) (owns : List ℕ) (k : Kept) (some : 1 ≤ (rules_of i).decl.window) (low : k.time < 2 ^ 64) (s : IsSeen i owns k) where
+module _ (i : Inputs) (owns : List ℕ) (k : SessionState) (some : 1 ≤ (rules_of i).decl.window) (low : k.time < 2 ^ 64) (s : IsSeen i owns k) where
   abbrev p : Placements
   p = k.machine.placer
 
@@ -148,19 +148,19 @@ module _ (i : Inputs) (owns : List ℕ) (k : Kept) (some : 1 ≤ (rules_of i).de
   taken_after = taken_grown (IsNode i owns) (λ n. In n after.drops) first.nodes after.nodes (tags k.shown) steps.grows (taken_all ns first.nodes (tags k.shown) ran.taken s.taken)
 
   -- of the instruments that were armed since, too
-  tests_after : (a : Kept) → IsReady i owns k a → AreTests i owns a.machine.placer after.nodes (λ n. In n after.drops) a.shown
+  tests_after : (a : SessionState) → IsReady i owns k a → AreTests i owns a.machine.placer after.nodes (λ n. In n after.drops) a.shown
   tests_after a r =
       let sampled = map (sampled_to p k.time) k.shown in
       let now = tests_ended i owns p k.time ns first.nodes k.shown sampled (like_sampled p k.time k.shown) s.tests ran.tests in
       tests_grown i owns a.machine.placer (IsNode i owns) (λ n. In n after.drops) (λ n. In n first.drops) (λ n. In n after.drops) first.nodes after.nodes a.shown
       steps.grows (λ n h. h) steps.drops (r.tests first.nodes first.drops now)
 
-  pub seen_verdicts : (a : Kept) → IsReady i owns k a → IsSeen i owns (with_verdicts samples a)
+  pub seen_verdicts : (a : SessionState) → IsReady i owns k a → IsSeen i owns (with_verdicts samples a)
   unfolding with_verdicts
   seen_verdicts a r =
       let v = search_step a.time samples a.search in
       let same : v ≡ after = ap (λ (t : ℕ). search_step t samples a.search) r.time ∙ ap (search_step k.time samples) r.search in
-      let w : Kept = record a { search = v } in
+      let w : SessionState = record a { search = v } in
       let alike : tags a.shown ≡ tags k.shown = tags_like k.shown a.shown r.like in
       let alone : AreAlone (tags a.shown) = subst AreAlone (sym alike) s.alone in
       let tests : AreTests i owns a.machine.placer v.nodes (λ n. In n v.drops) a.shown =

@@ -13,20 +13,20 @@ use Rattle.instrument.specs.Placements.{Placements, admission, or_same, state_of
 use Rattle.instrument.specs.Scenes.{Admits, Drops, Hands, Sweeps}
 use Rattle.instrument.specs.declared.number.State.TheVariants.{Placing}
 use Rattle.instrument.proofs.Numbers as numbers
-use Rattle.instrumented.specs.Instrumented.{Instrumented, done, repeated, taken}
+use Rattle.instrumented.specs.Instrumented.{Instrumented, after_act, repeated, after_turns}
 use Rattle.w3_search.specs.Steps.{SearchData, search_step}
 use Rattle.w3_search.specs.declared.node.NodeSample.{NodeSample}
-use Rattle.session_spec.specs.declared.data.Shown.{Shown}
+use Rattle.session_spec.specs.declared.data.MetricFocusPair.{MetricFocusPair}
 use Rattle.session_spec.specs.Inputs.{Inputs, first_wishes, planned}
-use Rattle.session_spec.specs.States.{Kept, State, first_kept}
+use Rattle.session_spec.specs.States.{SessionState, State, first_kept}
 use Rattle.session_spec.specs.Turns.{handed_at_once, with_entries, with_hart, with_quiet, with_turns}
 use Rattle.session_spec.specs.Due.{all_armed, arm_all, sampled_to, with_arms, with_frees, with_next, with_samples}
 use Rattle.session_spec.specs.Admission.{with_admission}
-use Rattle.session_spec.specs.Opening.{opened, wished, with_agenda}
+use Rattle.session_spec.specs.Opening.{opening_state, wished, with_agenda}
 use Rattle.session_spec.specs.Tests.{with_tests}
 use Rattle.session_spec.specs.Verdicts.{tester_of, with_search_end, with_verdicts, without_tester, without_tests}
-use Rattle.session_spec.specs.Work.{closed, first_state, is_due, state_admitted, state_armed, state_done, state_ended, state_handed, state_judged, state_last, state_next, state_quiet, state_sampled, state_turned, state_worked, tend, tests_now, work, work_from}
-use Rattle.session_spec.specs.Rosters.{AreBelow, IsRoster}
+use Rattle.session_spec.specs.Work.{final_state, first_state, is_due, state_admitted, state_armed, state_done, state_ended, state_handed, state_judged, state_last, state_next, state_quiet, state_sampled, state_turned, state_worked, after_quantum, tests_now, after_quanta, after_quanta_from}
+use Rattle.session_spec.specs.Rosters.{AreBelow, AreNumbered}
 use Rattle.session_spec.proofs.Standing.{Since, since_none, since_on}
 use Rattle.session_spec.proofs.Acting.{admitted_placer, done_since, repeated_since, taken_placer}
 use Rattle.session_spec.proofs.Leaving.{since_tester, tests_alone}
@@ -41,9 +41,9 @@ use Rattle.session_spec.proofs.Passing.{none_closed, none_worked}
 use Rattle.session_spec.proofs.Pairs.{ArePairs, arms_are, many_armed, many_room, many_sampled, new_pair, pairs_armed, pairs_longer, pairs_push, pairs_room, pairs_sampled, pairs_since, pairs_tell}
 
 -- What holds of a session whose run has these harts, and for whose instruments this was recorded.
-pub record IsTelling (i : Inputs) (owns : List ℕ) (rs : List (List Bin)) (k : Kept) : Type 0 where
+pub record IsTelling (i : Inputs) (owns : List ℕ) (rs : List (List Bin)) (k : SessionState) : Type 0 where
   pub time : k.time ≡ length owns
-  pub roster : IsRoster k.machine.placer
+  pub roster : AreNumbered k.machine.placer
   pub below : AreBelow k.machine.placer.count k.shown
   pub apart : AreApart (tags k.shown)
   pub pairs : ArePairs i owns k.machine.placer k.shown rs
@@ -55,19 +55,19 @@ pub record Tells (i : Inputs) (s : State) : Type 0 where
 
 module _ (i : Inputs) where
   module _ (owns : List ℕ) (rs : List (List Bin)) where
-    abbrev P : Kept → Type 0
+    abbrev P : SessionState → Type 0
     P k = IsTelling i owns rs k
 
-    tell_beside : (k j : Kept) → IsBeside k j → P k → P j
+    tell_beside : (k j : SessionState) → IsBeside k j → P k → P j
     tell_beside k j b s =
         subst P
         (ap (λ (m : Instrumented). record j { machine = m; shown = k.shown; time = k.time }) (sym b.machine)
-        ∙ (ap (λ (ss : List Shown). record j { shown = ss; time = k.time }) (sym b.shown)
+        ∙ (ap (λ (ss : List MetricFocusPair). record j { shown = ss; time = k.time }) (sym b.shown)
         ∙ ap (λ (t : ℕ). record j { time = t }) (sym b.time)))
         (record { time = s.time; roster = s.roster; below = s.below; apart = s.apart; pairs = s.pairs })
 
     -- a machine in which no instrument was armed since
-    tell_machine : (k : Kept) (m : Instrumented) → Since k.machine.placer m.placer → P k → P (record k { machine = m })
+    tell_machine : (k : SessionState) (m : Instrumented) → Since k.machine.placer m.placer → P k → P (record k { machine = m })
     tell_machine k m a s = record {
       time = s.time;
       roster = a.roster;
@@ -77,17 +77,17 @@ module _ (i : Inputs) where
     }
 
     -- another search
-    pub tell_search : (k : Kept) (v : SearchData) → P k → P (record k { search = v })
+    pub tell_search : (k : SessionState) (v : SearchData) → P k → P (record k { search = v })
     tell_search k v s = record { time = s.time; roster = s.roster; below = s.below; apart = s.apart; pairs = s.pairs }
 
     -- ---- an instrument more
 
-    tell_more : (k : Kept) (plan : Plan) (cost : Option ℕ) (placer : Placements) (x : Shown) (v : SearchData) → admission k.machine.placer plan cost ≡ Ok placer
+    tell_more : (k : SessionState) (plan : Plan) (cost : Option ℕ) (placer : Placements) (x : MetricFocusPair) (v : SearchData) → admission k.machine.placer plan cost ≡ Ok placer
         → x.instrument.n ≡ k.machine.placer.count → x.armed ≡ None → planned i x.metric x.focus ≡ Ok plan → P k
-        → P (record k { machine = done (Admits plan cost) k.machine; search = v; shown = k.shown ++ x ∷ [] })
+        → P (record k { machine = after_act (Admits plan cost) k.machine; search = v; shown = k.shown ++ x ∷ [] })
     tell_more k plan cost placer x v e number none is s =
         let p = k.machine.placer in
-        let m = done (Admits plan cost) k.machine in
+        let m = after_act (Admits plan cost) k.machine in
         let since = done_since (Admits plan cost) tt k.machine s.roster in
         let placer_is : m.placer ≡ placer = admitted_placer plan cost k.machine ∙ ap (or_same p) e in
         let told = numbers.admissions_tell p plan cost placer (s.roster).numbered e in
@@ -106,28 +106,28 @@ module _ (i : Inputs) where
     pub tell_keeps : Keeps i P
     tell_keeps = record {
       beside = tell_beside;
-      drops = λ k n s. tell_machine k (done (Drops n) k.machine) (done_since (Drops n) tt k.machine s.roster) s;
+      drops = λ k n s. tell_machine k (after_act (Drops n) k.machine) (done_since (Drops n) tt k.machine s.roster) s;
       wished = λ k plan w placer is e s. tell_more k plan None placer _ k.search e refl refl is s;
       barred = λ k n node cause stands waits by s. tell_search k _ s;
       tested = λ k n node plan placer stands waits is room e s. tell_more k plan _ placer _ _ e refl refl is s;
     }
 
-    tell_admission : (k : Kept) → P k → P (with_admission i k)
+    tell_admission : (k : SessionState) → P k → P (with_admission i k)
     tell_admission k s = admission_kept i P tell_keeps k s
 
     -- ---- entries of the agenda, and what is freed
 
-    pub tell_entries : (k : Kept) → P k → P (with_entries k)
+    pub tell_entries : (k : SessionState) → P k → P (with_entries k)
     unfolding with_entries
     tell_entries k s = tell_machine k (repeated handed_at_once Hands k.machine) (repeated_since handed_at_once Hands tt k.machine s.roster) s
 
-    pub tell_agenda : (k : Kept) → P k → P (with_agenda k)
+    pub tell_agenda : (k : SessionState) → P k → P (with_agenda k)
     unfolding with_agenda
     tell_agenda k s =
         let n = length k.machine.placer.book.agenda in
         tell_machine k (repeated n Hands k.machine) (repeated_since n Hands tt k.machine s.roster) s
 
-    pub tell_frees : (k : Kept) → P k → P (with_frees k)
+    pub tell_frees : (k : SessionState) → P k → P (with_frees k)
     unfolding with_frees
     tell_frees k s =
         let n = length k.machine.placer.book.agenda in
@@ -135,7 +135,7 @@ module _ (i : Inputs) where
 
     -- ---- armings
 
-    pub tell_arms : (k : Kept) → P k → P (with_arms k)
+    pub tell_arms : (k : SessionState) → P k → P (with_arms k)
     unfolding with_arms
     tell_arms k s =
         let ss = all_armed k.time k.machine k.shown in
@@ -151,36 +151,36 @@ module _ (i : Inputs) where
 
     -- ---- verdicts
 
-    since_tests : (ds : List ℕ) (k : Kept) → IsRoster k.machine.placer → Since k.machine.placer (without_tests ds k).machine.placer
+    since_tests : (ds : List ℕ) (k : SessionState) → AreNumbered k.machine.placer → Since k.machine.placer (without_tests ds k).machine.placer
     since_tests [] k r = since_none k.machine.placer r
     since_tests (d ∷ ds) k r =
         let j = without_tester (tester_of k.machine.placer d k.shown) k in
         let s = since_tester (tester_of k.machine.placer d k.shown) k r in
         since_on k.machine.placer j.machine.placer (without_tests ds j).machine.placer s (since_tests ds j s.roster)
 
-    tell_verdicts : (samples : List NodeSample) (k : Kept) → P k → P (with_verdicts samples k)
+    tell_verdicts : (samples : List NodeSample) (k : SessionState) → P k → P (with_verdicts samples k)
     unfolding with_verdicts
     tell_verdicts samples k s =
         let v = search_step k.time samples k.search in
-        let w : Kept = record k { search = v } in
+        let w : SessionState = record k { search = v } in
         let m = (without_tests v.drops w).machine in
         subst P (sym (tests_alone v.drops w)) (tell_machine w m (since_tests v.drops w s.roster) (tell_search k v s))
 
-    pub tell_next : (width : ℕ) (k : Kept) → P k → P (with_next width k)
+    pub tell_next : (width : ℕ) (k : SessionState) → P k → P (with_next width k)
     unfolding with_next
     tell_next width k s = record { time = s.time; roster = s.roster; below = s.below; apart = s.apart; pairs = s.pairs }
 
-    pub tell_end : (k : Kept) → P k → P (with_search_end k)
+    pub tell_end : (k : SessionState) → P k → P (with_search_end k)
     unfolding with_search_end
     tell_end k s = record { time = s.time; roster = s.roster; below = s.below; apart = s.apart; pairs = s.pairs }
 
   -- ---- turns
 
-  pub tell_turns : (owns : List ℕ) (rs : List (List Bin)) (turns : List Event) (k : Kept) → IsTelling i owns rs k → IsTelling i (owns ++ replays.owns turns k.machine.core) rs (with_turns turns k)
+  pub tell_turns : (owns : List ℕ) (rs : List (List Bin)) (turns : List Event) (k : SessionState) → IsTelling i owns rs k → IsTelling i (owns ++ replays.owns turns k.machine.core) rs (with_turns turns k)
   tell_turns owns rs turns k s =
       let more = replays.owns turns k.machine.core in
-      let later : Kept = record k { time = k.time + length more; idle = (with_turns turns k).idle } in
-      tell_machine (owns ++ more) rs later (taken turns k.machine) (subst (Since k.machine.placer) (sym (taken_placer turns k.machine)) (since_none k.machine.placer s.roster))
+      let later : SessionState = record k { time = k.time + length more; idle = (with_turns turns k).idle } in
+      tell_machine (owns ++ more) rs later (after_turns turns k.machine) (subst (Since k.machine.placer) (sym (taken_placer turns k.machine)) (since_none k.machine.placer s.roster))
       (record {
         time = omega (arith, s.time, length-append owns more);
         roster = s.roster;
@@ -213,7 +213,7 @@ module _ (i : Inputs) where
   many_entries s = refl
 
   pub tells_handed : (s : State) → Tells i s → Tells i (state_handed s)
-  tells_handed s z = record { kept = tell_entries s.owns s.recorded s.kept z.kept; many = z.many ∙ ap (λ (xs : List Shown). length xs) (sym (many_entries s)) }
+  tells_handed s z = record { kept = tell_entries s.owns s.recorded s.kept z.kept; many = z.many ∙ ap (λ (xs : List MetricFocusPair). length xs) (sym (many_entries s)) }
 
   pub tells_sampled : (s : State) → Tells i s → Tells i (state_sampled i s)
   unfolding with_samples
@@ -234,7 +234,7 @@ module _ (i : Inputs) where
         many = many_sampled i s.owns k.time a.time p k.shown s.recorded z.many ∙ sym (same_many p k.time k.shown);
       }
     where
-      same_many : (p : Placements) (t : ℕ) (xs : List Shown) → length (map (sampled_to p t) xs) ≡ length xs
+      same_many : (p : Placements) (t : ℕ) (xs : List MetricFocusPair) → length (map (sampled_to p t) xs) ≡ length xs
       same_many p t [] = refl
       same_many p t (x ∷ xs) = omega (arith, same_many p t xs)
 
@@ -245,28 +245,28 @@ module _ (i : Inputs) where
   pub tells_armed : (s : State) → Tells i s → Tells i (state_armed s)
   tells_armed s z = record { kept = tell_arms s.owns s.recorded (with_frees s.kept) (tell_frees s.owns s.recorded s.kept z.kept); many = arms_many s z }
 
-  pub verdicts_shown : (samples : List NodeSample) (k : Kept) → (with_verdicts samples k).shown ≡ k.shown
+  pub verdicts_shown : (samples : List NodeSample) (k : SessionState) → (with_verdicts samples k).shown ≡ k.shown
   unfolding with_verdicts
   verdicts_shown samples k =
       let v = search_step k.time samples k.search in
-      ap (λ (z : Kept). z.shown) (tests_alone v.drops (record k { search = v }))
+      ap (λ (z : SessionState). z.shown) (tests_alone v.drops (record k { search = v }))
 
   pub tells_judged : (samples : List NodeSample) (s : State) → Tells i s → Tells i (state_judged samples s)
-  tells_judged samples s z = record { kept = tell_verdicts s.owns s.recorded samples s.kept z.kept; many = z.many ∙ ap (λ (xs : List Shown). length xs) (sym (verdicts_shown samples s.kept)) }
+  tells_judged samples s z = record { kept = tell_verdicts s.owns s.recorded samples s.kept z.kept; many = z.many ∙ ap (λ (xs : List MetricFocusPair). length xs) (sym (verdicts_shown samples s.kept)) }
 
-  next_shown : (width : ℕ) (k : Kept) → (with_next width k).shown ≡ k.shown
+  next_shown : (width : ℕ) (k : SessionState) → (with_next width k).shown ≡ k.shown
   unfolding with_next
   next_shown width k = refl
 
   pub tells_next : (width : ℕ) (s : State) → Tells i s → Tells i (state_next width s)
-  tells_next width s z = record { kept = tell_next s.owns s.recorded width s.kept z.kept; many = z.many ∙ ap (λ (xs : List Shown). length xs) (sym (next_shown width s.kept)) }
+  tells_next width s z = record { kept = tell_next s.owns s.recorded width s.kept z.kept; many = z.many ∙ ap (λ (xs : List MetricFocusPair). length xs) (sym (next_shown width s.kept)) }
 
-  end_shown : (k : Kept) → (with_search_end k).shown ≡ k.shown
+  end_shown : (k : SessionState) → (with_search_end k).shown ≡ k.shown
   unfolding with_search_end
   end_shown k = refl
 
   pub tells_ended : (s : State) → Tells i s → Tells i (state_ended s)
-  tells_ended s z = record { kept = tell_end s.owns s.recorded s.kept z.kept; many = z.many ∙ ap (λ (xs : List Shown). length xs) (sym (end_shown s.kept)) }
+  tells_ended s z = record { kept = tell_end s.owns s.recorded s.kept z.kept; many = z.many ∙ ap (λ (xs : List MetricFocusPair). length xs) (sym (end_shown s.kept)) }
 
   -- ---- a due work, and a quantum
 
@@ -282,8 +282,8 @@ module _ (i : Inputs) where
   tells_worked : (s : State) → Tells i s → Tells i (state_worked i s)
   tells_worked s z = cond_both (is_due s.kept) (state_done i (state_quiet s)) s (Tells i) (λ _. tells_done (state_quiet s) (tells_quiet s z)) (λ _. z)
 
-  pub tells_tend : (h n : ℕ) (s : State) → Tells i s → Tells i (tend i h n s)
-  unfolding tend
+  pub tells_tend : (h n : ℕ) (s : State) → Tells i s → Tells i (after_quantum i h n s)
+  unfolding after_quantum
   tells_tend h n s z =
       let a = state_admitted i s in
       let t = state_turned h n a in
@@ -305,14 +305,14 @@ module _ (i : Inputs) where
   picked_telling =
       tests_kept i (IsTelling i [] []) (of_nodes i (IsTelling i [] []) (tell_keeps [] [])) (wished i) (all_kept i (IsTelling i [] []) (of_wishes i (IsTelling i [] []) (tell_keeps [] [])) (first_wishes i) (first_kept i) start_telling)
 
-  opened_telling : IsTelling i [] [] (opened i)
+  opened_telling : IsTelling i [] [] (opening_state i)
   opened_telling = tell_arms [] [] (with_agenda (with_tests i (wished i))) (tell_agenda [] [] (with_tests i (wished i)) picked_telling)
 
-  blanks : (p : Placements) (xs : List Shown) → ArePairs i [] p xs [] → ArePairs i [] p xs (map (λ s. []) xs)
+  blanks : (p : Placements) (xs : List MetricFocusPair) → ArePairs i [] p xs [] → ArePairs i [] p xs (map (λ s. []) xs)
   blanks p [] h = tt
   blanks p (x ∷ xs) h = (h.0, blanks p xs h.1)
 
-  many_blanks : (xs : List Shown) → length (map {B = List Bin} (λ (s : Shown). []) xs) ≡ length xs
+  many_blanks : (xs : List MetricFocusPair) → length (map {B = List Bin} (λ (s : MetricFocusPair). []) xs) ≡ length xs
   many_blanks [] = refl
   many_blanks (x ∷ xs) = omega (arith, many_blanks xs)
 
@@ -320,20 +320,20 @@ module _ (i : Inputs) where
   tells_first =
       let o = opened_telling in
       record {
-        kept = record { time = o.time; roster = o.roster; below = o.below; apart = o.apart; pairs = blanks (opened i).machine.placer (opened i).shown o.pairs };
-        many = many_blanks (opened i).shown;
+        kept = record { time = o.time; roster = o.roster; below = o.below; apart = o.apart; pairs = blanks (opening_state i).machine.placer (opening_state i).shown o.pairs };
+        many = many_blanks (opening_state i).shown;
       }
 
-  tells_from : (quanta : List Quantum) (s : State) → Tells i s → Tells i (work_from i quanta s)
+  tells_from : (quanta : List Quantum) (s : State) → Tells i s → Tells i (after_quanta_from i quanta s)
   tells_from [] s z = z
-  tells_from (q ∷ quanta) s z = tells_from quanta (tend i q.hart q.turns s) (tells_tend q.hart q.turns s z)
+  tells_from (q ∷ quanta) s z = tells_from quanta (after_quantum i q.hart q.turns s) (tells_tend q.hart q.turns s z)
 
-  pub tells_work : (quanta : List Quantum) → Tells i (work i quanta)
-  unfolding work
+  pub tells_work : (quanta : List Quantum) → Tells i (after_quanta i quanta)
+  unfolding after_quanta
   tells_work quanta = tells_from quanta (first_state i) tells_first
 
-  pub tells_closed : (s : State) → Tells i s → Tells i (closed i s)
-  unfolding closed
+  pub tells_closed : (s : State) → Tells i s → Tells i (final_state i s)
+  unfolding final_state
   tells_closed s z =
       let q = state_quiet s in
       let quiet = tells_quiet s z in
@@ -345,6 +345,6 @@ module _ (i : Inputs) where
 
 pub bins_told : BinsTold
 bins_told = record {
-  works = λ i quanta wide. recorded_told i (work i quanta) (none_worked i wide quanta) (tells_work i quanta);
-  closes = λ i quanta wide. recorded_told i (closed i (work i quanta)) (none_closed i wide quanta) (tells_closed i (work i quanta) (tells_work i quanta));
+  works = λ i quanta wide. recorded_told i (after_quanta i quanta) (none_worked i wide quanta) (tells_work i quanta);
+  closes = λ i quanta wide. recorded_told i (final_state i (after_quanta i quanta)) (none_closed i wide quanta) (tells_closed i (after_quanta i quanta) (tells_work i quanta));
 }

@@ -14,7 +14,7 @@ use Rattle.session_spec.specs.Due.{latest_from, recorded_with, with_arms, with_f
 use Rattle.session_spec.specs.Verdicts.{node_samples, with_search_end}
 use Rattle.session_spec.specs.Work.{samples_now, state_admitted, state_armed, state_ended, state_handed, state_judged, state_next, state_quiet, state_sampled, state_turned, tests_now}
 use Rattle.session_spec.specs.Readings.{recorded_read, ticks_of}
-use Rattle.session_spec.specs.Reads.{IsSound, latest_read, marks_of, nodes_read, ticks_by}
+use Rattle.session_spec.specs.Reads.{IsSoundState, latest_read, marks_of, nodes_read, ticks_by}
 use Rattle.session_spec.proofs.Counting.{nodes_are}
 use Rattle.session_spec.proofs.Going.{admission_once}
 use Rattle.session_spec.proofs.Samples.{latest_is, recorded_is}
@@ -24,7 +24,7 @@ use Rattle.session_spec.proofs.Testing.{verdicts_judged}
 abbrev marks_in : Inputs → List ℕ → List ℕ
 marks_in i own = map (ticks_by own) (range_with_len 0 i.settings.harts)
 
-module _ (i : Inputs) (s : State) (lasts : List ℕ) (k : IsSound i s lasts) where
+module _ (i : Inputs) (s : State) (lasts : List ℕ) (k : IsSoundState i s lasts) where
   -- ---- how many ticks each hart had at the last sample
 
   -- what the run goes on by is no part of it

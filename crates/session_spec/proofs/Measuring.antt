@@ -8,7 +8,7 @@ use Rattle.std.proofs.lemmas.List.{drop-append-le, drop-drop, length-append, len
 use Rattle.pn_types.specs.declared.plan.Plan.{Plan}
 use Rattle.rv_word.specs.Plain.{Plain, Words}
 use Rattle.rv_exec.specs.Run.{run_from}
-use Rattle.machine.specs.Measures.{Level, difference, level, level_at, measure, measure_of, measured, opened}
+use Rattle.machine.specs.Measures.{Level, difference, level, level_at, measure, measure_of, measured, opening_level}
 use Rattle.instrument.proofs.Folds.{filter_append}
 use Rattle.session_spec.specs.Verdicts.{ticks_in}
 
@@ -16,8 +16,8 @@ use Rattle.session_spec.specs.Verdicts.{ticks_in}
 
 level_more : (t : Words) (plan : Plan) (h a k : ℕ) (owns more : List ℕ) (s : Plain) → a ≤ length owns → k ≤ length owns → level_at t plan h a k (owns ++ more) s ≡ level_at t plan h a k owns s
 level_more t plan h a k owns more s l m =
-    ap (λ (xs : List ℕ). level t plan h (drop a xs) (run_from t (take a (owns ++ more)) s) (opened plan (run_from t (take a (owns ++ more)) s) h)) (take-append-le k owns more m)
-    ∙ ap (λ (xs : List ℕ). level t plan h (drop a (take k owns)) (run_from t xs s) (opened plan (run_from t xs s) h)) (take-append-le a owns more l)
+    ap (λ (xs : List ℕ). level t plan h (drop a xs) (run_from t (take a (owns ++ more)) s) (opening_level plan (run_from t (take a (owns ++ more)) s) h)) (take-append-le k owns more m)
+    ∙ ap (λ (xs : List ℕ). level t plan h (drop a (take k owns)) (run_from t xs s) (opening_level plan (run_from t xs s) h)) (take-append-le a owns more l)
 
 pub measure_more : (t : Words) (plan : Plan) (harts : List ℕ) (a b c : ℕ) (owns more : List ℕ) (s : Plain) → a ≤ b → b ≤ c → c ≤ length owns
     → measure t plan harts a b c (owns ++ more) s ≡ measure t plan harts a b c owns s

@@ -4,7 +4,7 @@ use Rattle.session_spec.specs.Inputs.{Inputs}
 use Rattle.session_spec.specs.States.{State}
 use Rattle.session_spec.specs.Admission.{with_wishes}
 use Rattle.session_spec.specs.Due.{with_frees}
-use Rattle.session_spec.specs.Work.{state_admitted, state_quiet, state_sampled, state_turned, work}
+use Rattle.session_spec.specs.Work.{state_admitted, state_quiet, state_sampled, state_turned, after_quanta}
 use Rattle.session_spec.specs.Costs.{AreWithin, CostsStay}
 use Rattle.session_spec.specs.LastReadings.{handed_on}
 use Rattle.session_spec.proofs.AdmittingSteps.{admission_kept, none_taken, nodes_kept, of_nodes, of_wishes, wishes_kept}
@@ -36,7 +36,7 @@ module _ (i : Inputs) (s : State) (c : IsCounted i s.kept) where
 pub costs_stay : CostsStay
 costs_stay = record {
   works = λ i quanta. (counted_work i quanta).within;
-  moments = λ i quanta. moments i (work i quanta) (counted_work i quanta);
-  closes = λ i quanta. (counted_closed i (work i quanta) (counted_work i quanta)).within;
+  moments = λ i quanta. moments i (after_quanta i quanta) (counted_work i quanta);
+  closes = λ i quanta. (counted_closed i (after_quanta i quanta) (counted_work i quanta)).within;
   observed = none_taken;
 }

@@ -7,7 +7,7 @@ use Rattle.session_spec.specs.Inputs.{Inputs}
 use Rattle.session_spec.specs.Searches.{rules_of}
 use Rattle.session_spec.specs.States.{State}
 use Rattle.session_spec.specs.Told.{IsJudged}
-use Rattle.session_spec.specs.Work.{closed, work}
+use Rattle.session_spec.specs.Work.{final_state, after_quanta}
 use Rattle.session_spec.specs.Bins.{AreRecorded}
 use Rattle.session_spec.specs.Laws.{VerdictsTold}
 use Rattle.session_spec.proofs.Barring.{bars_told}
@@ -29,9 +29,9 @@ judged i s k n told some t =
 
 pub verdicts_told : VerdictsTold
 verdicts_told = record {
-  works = λ i quanta wide some low k n e c. judged i (work i quanta) k n (bins_told.works i quanta wide) some (judged_told i some quanta low k n e c);
+  works = λ i quanta wide some low k n e c. judged i (after_quanta i quanta) k n (bins_told.works i quanta wide) some (judged_told i some quanta low k n e c);
   closes = λ i quanta wide some low k n e.
-      let s = closed i (work i quanta) in
+      let s = final_state i (after_quanta i quanta) in
       ⊎_elim
       (λ (t : IsTraceable i s k n). inl (judged i s k n (bins_told.closes i quanta wide) some t))
       (λ (o : IsUnjudged i n). inr (⊎_elim

@@ -11,18 +11,18 @@ use Rattle.instrument.specs.Scenes.{Hands}
 use Rattle.instrument.specs.declared.number.State.{State as Stage}
 use Rattle.instrument.specs.declared.number.State.TheVariants.{Placing, Armed, Leaving, Gone}
 use Rattle.instrumented.specs.Instrumented.{Instrumented, repeated}
-use Rattle.session_spec.specs.declared.data.Shown.{Shown}
+use Rattle.session_spec.specs.declared.data.MetricFocusPair.{MetricFocusPair}
 use Rattle.session_spec.specs.Inputs.{Inputs}
-use Rattle.session_spec.specs.States.{Kept, State}
+use Rattle.session_spec.specs.States.{SessionState, State}
 use Rattle.session_spec.specs.Admission.{shown_next, with_admission}
 use Rattle.session_spec.specs.Turns.{with_entries, with_hart, with_quiet}
 use Rattle.fold_hist.specs.declared.bin.Bin.{Bin}
 use Rattle.session_spec.specs.Due.{all_armed, armed_at, is_armed, is_ready, machine_armed, sampled_to, with_arms, with_frees, with_next}
 use Rattle.session_spec.specs.Due as due
-use Rattle.session_spec.specs.Opening.{opened, with_agenda}
+use Rattle.session_spec.specs.Opening.{opening_state, with_agenda}
 use Rattle.session_spec.specs.Tests.{tests_next}
 use Rattle.session_spec.specs.Verdicts.{with_search_end, with_verdicts}
-use Rattle.session_spec.specs.Work.{closed, first_state, is_due, state_admitted, state_done, state_ended, state_handed, state_last, state_quiet, state_sampled, state_turned, state_worked, tend, tests_now, work, work_from}
+use Rattle.session_spec.specs.Work.{final_state, first_state, is_due, state_admitted, state_done, state_ended, state_handed, state_last, state_quiet, state_sampled, state_turned, state_worked, after_quantum, tests_now, after_quanta, after_quanta_from}
 use Rattle.session_spec.specs.Plans.{ArePlansGood}
 use Rattle.session_spec.specs.Readings.{lasts_with}
 use Rattle.session_spec.proofs.Begins.{all_quiet, first_quiet, picked, picked_moved}
@@ -59,35 +59,35 @@ module _ (i : Inputs) (program : IsProgram i.image) (good : ArePlansGood i) wher
   agenda_shown = refl
 
   -- none is being placed: those that were are armed
-  none_waits : (k : ℕ) (x : Shown) → slice_get (with_agenda (picked i)).shown k ≡ Some x → state_of (with_arms (with_agenda (picked i))).machine.placer x.instrument.n ≡ Placing → ⊥
+  none_waits : (k : ℕ) (x : MetricFocusPair) → slice_get (with_agenda (picked i)).shown k ≡ Some x → state_of (with_arms (with_agenda (picked i))).machine.placer x.instrument.n ≡ Placing → ⊥
   unfolding with_arms
   none_waits k x e =
       let a = tell_agenda i [] [] (picked i) (picked_telling i) in
       none_placing i [] (with_agenda (picked i)).time a.time (with_agenda (picked i)).shown (with_agenda (picked i)).machine a.roster a.apart placed k x e
 
-  pub armed_from : (t : ℕ) (xs : List Shown) (m : Instrumented) (k : ℕ) (y : Shown) → slice_get (all_armed t m xs) k ≡ Some y → (x : Shown) × (slice_get xs k ≡ Some x) × (y.instrument.n ≡ x.instrument.n)
+  pub armed_from : (t : ℕ) (xs : List MetricFocusPair) (m : Instrumented) (k : ℕ) (y : MetricFocusPair) → slice_get (all_armed t m xs) k ≡ Some y → (x : MetricFocusPair) × (slice_get xs k ≡ Some x) × (y.instrument.n ≡ x.instrument.n)
   armed_from t [] m k y e = absurd cc
   armed_from t (z ∷ xs) m zero y e =
       let same : armed_at t m z ≡ y = cc in
-      (z, refl, ap (λ (v : Shown). v.instrument.n) (sym same) ∙ by (is_ready m z))
+      (z, refl, ap (λ (v : MetricFocusPair). v.instrument.n) (sym same) ∙ by (is_ready m z))
     where
       by : (b : Bool) → (cond b (record z { armed = Some t; from = t }) z).instrument.n ≡ z.instrument.n
       by true = refl
       by false = refl
   armed_from t (z ∷ xs) m (suc k) y e = armed_from t xs (machine_armed m z) k y e
 
-  none_left : (k : ℕ) (y : Shown) → slice_get (opened i).shown k ≡ Some y → state_of (opened i).machine.placer y.instrument.n ≡ Placing → ⊥
+  none_left : (k : ℕ) (y : MetricFocusPair) → slice_get (opening_state i).shown k ≡ Some y → state_of (opening_state i).machine.placer y.instrument.n ≡ Placing → ⊥
   unfolding with_arms
   none_left k y e f =
       let x = armed_from (with_agenda (picked i)).time (with_agenda (picked i)).shown (with_agenda (picked i)).machine k y e in
-      none_waits k x.0 x.1 (ap (state_of (opened i).machine.placer) (sym x.2) ∙ f)
+      none_waits k x.0 x.1 (ap (state_of (opening_state i).machine.placer) (sym x.2) ∙ f)
 
   -- what isn't dropped is armed at 0
-  pub armed_first : (k : ℕ) (y : Shown) → slice_get (opened i).shown k ≡ Some y → is_leaving (state_of (opened i).machine.placer y.instrument.n) ≡ false → y.armed ≡ Some 0
+  pub armed_first : (k : ℕ) (y : MetricFocusPair) → slice_get (opening_state i).shown k ≡ Some y → is_leaving (state_of (opening_state i).machine.placer y.instrument.n) ≡ false → y.armed ≡ Some 0
   armed_first k y e l =
-      let p = (opened i).machine.placer in
+      let p = (opening_state i).machine.placer in
       let rs = (first_state i).recorded in
-      let o = pair_at i [] p (opened i).shown rs k y (tells_first i).kept.pairs e in
+      let o = pair_at i [] p (opening_state i).shown rs k y (tells_first i).kept.pairs e in
       by (state_of p y.instrument.n) (row rs k) l (none_left k y e) o
     where
       by : (q : Stage) (r : List Bin) → is_leaving q ≡ false → (q ≡ Placing → ⊥) → IsPair i [] q y r → y.armed ≡ Some 0
@@ -103,25 +103,25 @@ module _ (i : Inputs) (program : IsProgram i.image) (good : ArePlansGood i) wher
 
 -- ---- what was armed stays armed
 
-abbrev Stay : List Shown → List Shown → Type 0
-Stay xs ys = (n : ℕ) (x : Shown) (a : ℕ) → slice_get xs n ≡ Some x → x.armed ≡ Some a → HasBecome ys n x
+abbrev Stay : List MetricFocusPair → List MetricFocusPair → Type 0
+Stay xs ys = (n : ℕ) (x : MetricFocusPair) (a : ℕ) → slice_get xs n ≡ Some x → x.armed ≡ Some a → HasBecome ys n x
 
-stay_none : (xs : List Shown) → Stay xs xs
+stay_none : (xs : List MetricFocusPair) → Stay xs xs
 stay_none xs n x a e f = record { y = x; listed = e; node = refl; metric = refl; focus = refl; armed = refl }
 
-stay_on : (xs ys zs : List Shown) → Stay xs ys → Stay ys zs → Stay xs zs
+stay_on : (xs ys zs : List MetricFocusPair) → Stay xs ys → Stay ys zs → Stay xs zs
 stay_on xs ys zs g h n x a e f =
     let b = g n x a e f in
     let c = h n b.y a b.listed (b.armed ∙ f) in
     record { y = c.y; listed = c.listed; node = c.node ∙ b.node; metric = c.metric ∙ b.metric; focus = c.focus ∙ b.focus; armed = c.armed ∙ b.armed }
 
-stay_same : (xs ys : List Shown) → ys ≡ xs → Stay xs ys
+stay_same : (xs ys : List MetricFocusPair) → ys ≡ xs → Stay xs ys
 stay_same xs ys e = subst (Stay xs) (sym e) (stay_none xs)
 
-stay_push : (xs : List Shown) (x : Shown) → Stay xs (xs ++ x ∷ [])
+stay_push : (xs : List MetricFocusPair) (x : MetricFocusPair) → Stay xs (xs ++ x ∷ [])
 stay_push xs x n y a e f = record { y = y; listed = shown_left xs (x ∷ []) n y e; node = refl; metric = refl; focus = refl; armed = refl }
 
-stay_sampled : (p : Placements) (t : ℕ) (xs : List Shown) → Stay xs (map (sampled_to p t) xs)
+stay_sampled : (p : Placements) (t : ℕ) (xs : List MetricFocusPair) → Stay xs (map (sampled_to p t) xs)
 stay_sampled p t xs n x a e f = by (is_armed p x) (sampled_at p t xs n x e)
   where
     by : (b : Bool) → slice_get (map (sampled_to p t) xs) n ≡ Some (cond b (record x { from = t }) x) → HasBecome (map (sampled_to p t) xs) n x
@@ -132,15 +132,15 @@ never_armed : (a : ℕ) → None ≡ Some a → ⊥
 never_armed a e = cc
 
 module _ (i : Inputs) where
-  stay_armed : (owns : List ℕ) (rs : List (List Bin)) (k : Kept) → IsTelling i owns rs k → Stay k.shown (with_arms k).shown
+  stay_armed : (owns : List ℕ) (rs : List (List Bin)) (k : SessionState) → IsTelling i owns rs k → Stay k.shown (with_arms k).shown
   unfolding with_arms
   stay_armed owns rs k s n x a e f =
       let b = armed_behind i owns k.time s.time k.shown k.machine n x s.roster s.apart e in
       ⊎_elim
-      (λ (v : b.0 ≡ x). record { y = b.0; listed = b.1; node = b.2.node; metric = b.2.metric; focus = b.2.focus; armed = ap (λ (z : Shown). z.armed) v })
+      (λ (v : b.0 ≡ x). record { y = b.0; listed = b.1; node = b.2.node; metric = b.2.metric; focus = b.2.focus; armed = ap (λ (z : MetricFocusPair). z.armed) v })
       (λ v. absurd (never_armed a (sym ((pair_at i owns k.machine.placer k.shown rs n x s.pairs e).placing v) ∙ f))) b.2.same
 
-  stay_keeps : (xs : List Shown) → Keeps i (λ (j : Kept). Stay xs j.shown)
+  stay_keeps : (xs : List MetricFocusPair) → Keeps i (λ (j : SessionState). Stay xs j.shown)
   stay_keeps xs = record {
     beside = λ k j b s. stay_on xs k.shown j.shown s (stay_same k.shown j.shown b.shown);
     drops = λ k n s. s;
@@ -149,8 +149,8 @@ module _ (i : Inputs) where
     tested = λ k n node plan placer stands waits is room e s. stay_on xs k.shown (k.shown ++ tests_next i n node k ∷ []) s (stay_push k.shown (tests_next i n node k));
   }
 
-  stay_admission : (k : Kept) → Stay k.shown (with_admission i k).shown
-  stay_admission k = admission_kept i (λ (j : Kept). Stay k.shown j.shown) (stay_keeps k.shown) k (stay_none k.shown)
+  stay_admission : (k : SessionState) → Stay k.shown (with_admission i k).shown
+  stay_admission k = admission_kept i (λ (j : SessionState). Stay k.shown j.shown) (stay_keeps k.shown) k (stay_none k.shown)
 
   begun_shown : (h n : ℕ) (s : State) → (state_handed (state_turned h n s)).kept.shown ≡ s.kept.shown
   unfolding with_hart with_entries
@@ -164,15 +164,15 @@ module _ (i : Inputs) where
   unfolding due.with_samples
   sampled_shown s = refl
 
-  freed_shown : (k : Kept) → (with_frees k).shown ≡ k.shown
+  freed_shown : (k : SessionState) → (with_frees k).shown ≡ k.shown
   unfolding with_frees
   freed_shown k = refl
 
-  next_shown : (width : ℕ) (k : Kept) → (with_next width k).shown ≡ k.shown
+  next_shown : (width : ℕ) (k : SessionState) → (with_next width k).shown ≡ k.shown
   unfolding with_next
   next_shown width k = refl
 
-  end_shown : (k : Kept) → (with_search_end k).shown ≡ k.shown
+  end_shown : (k : SessionState) → (with_search_end k).shown ≡ k.shown
   unfolding with_search_end
   end_shown k = refl
 
@@ -204,8 +204,8 @@ module _ (i : Inputs) where
       cond_both (is_due s.kept) (state_done i q) s (λ (x : State). Stay s.kept.shown x.kept.shown)
       (λ _. stay_on s.kept.shown q.kept.shown (state_done i q).kept.shown (stay_same s.kept.shown q.kept.shown (quiet_shown s)) (stay_done q (tells_quiet i s z))) (λ _. stay_none s.kept.shown)
 
-  stay_tend : (h n : ℕ) (s : State) → Tells i s → Stay s.kept.shown (tend i h n s).kept.shown
-  unfolding tend
+  stay_tend : (h n : ℕ) (s : State) → Tells i s → Stay s.kept.shown (after_quantum i h n s).kept.shown
+  unfolding after_quantum
   stay_tend h n s z =
       let a = state_admitted i s in
       let t = state_turned h n a in
@@ -214,18 +214,18 @@ module _ (i : Inputs) where
       stay_on s.kept.shown a.kept.shown (state_worked i b).kept.shown (stay_admission s.kept)
       (stay_on a.kept.shown b.kept.shown (state_worked i b).kept.shown (stay_same a.kept.shown b.kept.shown (begun_shown h n a)) (stay_worked b told))
 
-  stay_from : (quanta : List Quantum) (s : State) → Tells i s → Stay s.kept.shown (work_from i quanta s).kept.shown
+  stay_from : (quanta : List Quantum) (s : State) → Tells i s → Stay s.kept.shown (after_quanta_from i quanta s).kept.shown
   stay_from [] s z = stay_none s.kept.shown
   stay_from (q ∷ quanta) s z =
-      let t = tend i q.hart q.turns s in
-      stay_on s.kept.shown t.kept.shown (work_from i quanta t).kept.shown (stay_tend q.hart q.turns s z) (stay_from quanta t (tells_tend i q.hart q.turns s z))
+      let t = after_quantum i q.hart q.turns s in
+      stay_on s.kept.shown t.kept.shown (after_quanta_from i quanta t).kept.shown (stay_tend q.hart q.turns s z) (stay_from quanta t (tells_tend i q.hart q.turns s z))
 
-  stay_work : (quanta : List Quantum) → Stay (opened i).shown (work i quanta).kept.shown
-  unfolding work
+  stay_work : (quanta : List Quantum) → Stay (opening_state i).shown (after_quanta i quanta).kept.shown
+  unfolding after_quanta
   stay_work quanta = stay_from quanta (first_state i) (tells_first i)
 
-  stay_closed : (s : State) → Stay s.kept.shown (closed i s).kept.shown
-  unfolding closed
+  stay_closed : (s : State) → Stay s.kept.shown (final_state i s).kept.shown
+  unfolding final_state
   stay_closed s =
       let q = state_quiet s in
       let same = stay_same s.kept.shown q.kept.shown (quiet_shown s) in
@@ -240,5 +240,5 @@ pub opens_at_zero : OpensAtZero
 opens_at_zero = record {
   opens = λ i p good k x e l. armed_first i p good k x e l;
   works = λ i quanta k x a e f. stay_work i quanta k x a e f;
-  closes = λ i quanta k x a e f. stay_on (opened i).shown (work i quanta).kept.shown (closed i (work i quanta)).kept.shown (stay_work i quanta) (stay_closed i (work i quanta)) k x a e f;
+  closes = λ i quanta k x a e f. stay_on (opening_state i).shown (after_quanta i quanta).kept.shown (final_state i (after_quanta i quanta)).kept.shown (stay_work i quanta) (stay_closed i (after_quanta i quanta)) k x a e f;
 }

@@ -9,16 +9,16 @@ use Rattle.instrument.specs.Placements.{Placements}
 use Rattle.instrumented.specs.Instrumented.{Instrumented}
 use Rattle.w3_search.specs.Steps.{search_step}
 use Rattle.w3_search.specs.declared.node.NodeSample.{NodeSample}
-use Rattle.session_spec.specs.declared.data.Shown.{Shown}
+use Rattle.session_spec.specs.declared.data.MetricFocusPair.{MetricFocusPair}
 use Rattle.session_spec.specs.Inputs.{Inputs, first_wishes}
-use Rattle.session_spec.specs.States.{Kept, State, first_kept}
+use Rattle.session_spec.specs.States.{SessionState, State, first_kept}
 use Rattle.session_spec.specs.Turns.{with_entries, with_hart, with_quiet}
 use Rattle.session_spec.specs.Admission.{with_admission, shown_next}
 use Rattle.session_spec.specs.Due.{all_armed, is_armed, is_ready, machine_armed, next_due, recorded_with, sample_of, sampled_to, with_arms, with_frees, with_next, with_samples}
-use Rattle.session_spec.specs.Opening.{opened, wished, with_agenda}
+use Rattle.session_spec.specs.Opening.{opening_state, wished, with_agenda}
 use Rattle.session_spec.specs.Tests.{tests_next, with_tests}
 use Rattle.session_spec.specs.Verdicts.{with_verdicts}
-use Rattle.session_spec.specs.Work.{closed, first_state, is_due, state_admitted, state_done, state_ended, state_handed, state_last, state_quiet, state_turned, state_worked, tend, tests_now, work, work_from}
+use Rattle.session_spec.specs.Work.{final_state, first_state, is_due, state_admitted, state_done, state_ended, state_handed, state_last, state_quiet, state_turned, state_worked, after_quantum, tests_now, after_quanta, after_quanta_from}
 use Rattle.session_spec.proofs.Testing.{tests_once}
 use Rattle.session_spec.proofs.Wishing.{all_once}
 use Rattle.session_spec.proofs.AdmittingSteps.{Keeps, admission_kept, all_kept, of_nodes, of_wishes, tests_kept}
@@ -28,15 +28,15 @@ use Rattle.session_spec.proofs.Intervals.{NoneEmpty, NoneEmptyIn}
 -- ---- instruments
 
 -- none of these was armed or sampled later
-abbrev AreUntil : ℕ → List Shown → Type 0
+abbrev AreUntil : ℕ → List MetricFocusPair → Type 0
 AreUntil last [] = Unit {0}
 AreUntil last (x ∷ xs) = (x.from ≤ last) × AreUntil last xs
 
-until_push : (last : ℕ) (xs : List Shown) (x : Shown) → x.from ≤ last → AreUntil last xs → AreUntil last (xs ++ x ∷ [])
+until_push : (last : ℕ) (xs : List MetricFocusPair) (x : MetricFocusPair) → x.from ≤ last → AreUntil last xs → AreUntil last (xs ++ x ∷ [])
 until_push last [] x l u = (l, tt)
 until_push last (y ∷ xs) x l u = (u.0, until_push last xs x l u.1)
 
-until_sampled : (p : Placements) (last time : ℕ) (xs : List Shown) → last ≤ time → AreUntil last xs → AreUntil time (map (sampled_to p time) xs)
+until_sampled : (p : Placements) (last time : ℕ) (xs : List MetricFocusPair) → last ≤ time → AreUntil last xs → AreUntil time (map (sampled_to p time) xs)
 until_sampled p last time [] l u = tt
 until_sampled p last time (x ∷ xs) l u = (by (is_armed p x), until_sampled p last time xs l u.1)
   where
@@ -44,7 +44,7 @@ until_sampled p last time (x ∷ xs) l u = (by (is_armed p x), until_sampled p l
     by true = omega arith
     by false = omega (arith, u.0, l)
 
-until_armed : (last time : ℕ) (m : Instrumented) (xs : List Shown) → time ≤ last → AreUntil last xs → AreUntil last (all_armed time m xs)
+until_armed : (last time : ℕ) (m : Instrumented) (xs : List MetricFocusPair) → time ≤ last → AreUntil last xs → AreUntil last (all_armed time m xs)
 until_armed last time m [] l u = tt
 until_armed last time m (x ∷ xs) l u = (by (is_ready m x), until_armed last time (machine_armed m x) xs l u.1)
   where
@@ -58,7 +58,7 @@ none_push : (bs : List Bin) (b : Bin) → b.from < b.to → NoneEmpty bs → Non
 none_push [] b l n = (l, tt)
 none_push (c ∷ bs) b l n = (n.0, none_push bs b l n.1)
 
-none_sampled : (i : Inputs) (p : Placements) (owns : List ℕ) (last time : ℕ) (xs : List Shown) (rs : List (List Bin)) → last < time → AreUntil last xs → NoneEmptyIn rs
+none_sampled : (i : Inputs) (p : Placements) (owns : List ℕ) (last time : ℕ) (xs : List MetricFocusPair) (rs : List (List Bin)) → last < time → AreUntil last xs → NoneEmptyIn rs
     → NoneEmptyIn (recorded_with i p owns time xs rs)
 none_sampled i p owns last time [] rs l u n = n
 none_sampled i p owns last time (x ∷ xs) [] l u n = tt
@@ -73,14 +73,14 @@ none_room zero [] n = tt
 none_room (suc k) [] n = (tt, none_room k [] n)
 none_room k (r ∷ rs) n = (n.0, none_room k rs n.1)
 
-none_first : (xs : List Shown) → NoneEmptyIn (map (λ s. []) xs)
+none_first : (xs : List MetricFocusPair) → NoneEmptyIn (map (λ s. []) xs)
 none_first [] = tt
 none_first (x ∷ xs) = (tt, none_first xs)
 
 -- ---- the steps of a quantum
 
 -- Between quanta nothing was armed or sampled later than the last samples were taken, and work is due later than that.
-record IsPassing (k : Kept) : Type 0 where
+record IsPassing (k : SessionState) : Type 0 where
   until : AreUntil k.last k.shown
   due : k.last < k.due
 
@@ -89,7 +89,7 @@ record Passes (s : State) : Type 0 where
   none : NoneEmptyIn s.recorded
 
 -- after the samples of a due work
-record IsSampled (k : Kept) : Type 0 where
+record IsSampled (k : SessionState) : Type 0 where
   until : AreUntil k.last k.shown
   now : k.last ≡ k.time
 
@@ -97,22 +97,22 @@ passing_keeps : (i : Inputs) → Keeps i IsPassing
 passing_keeps i = record {
   beside = λ k j b z.
       let due = z.due in
-      record { until = subst (λ (xs : List Shown). AreUntil j.last xs) (sym b.shown) (subst (λ (t : ℕ). AreUntil t k.shown) (sym b.last) z.until); due = omega (arith, due, b.last, b.due) };
+      record { until = subst (λ (xs : List MetricFocusPair). AreUntil j.last xs) (sym b.shown) (subst (λ (t : ℕ). AreUntil t k.shown) (sym b.last) z.until); due = omega (arith, due, b.last, b.due) };
   drops = λ k n z. record { until = z.until; due = z.due };
   wished = λ k plan w placer is e z. record { until = until_push k.last k.shown (shown_next w k) (omega arith) z.until; due = z.due };
   barred = λ k n node cause stands waits by z. record { until = z.until; due = z.due };
   tested = λ k n node plan placer stands waits is room e z. record { until = until_push k.last k.shown (tests_next i n node k) (omega arith) z.until; due = z.due };
 }
 
-samples_passed : (k : Kept) → k.last < k.time → AreUntil k.last k.shown → IsSampled (with_samples k)
+samples_passed : (k : SessionState) → k.last < k.time → AreUntil k.last k.shown → IsSampled (with_samples k)
 unfolding with_samples
 samples_passed k l u = record { until = until_sampled k.machine.placer k.last k.time k.shown (omega (arith, l)) u; now = refl }
 
-arms_passed : (k : Kept) → IsSampled k → IsSampled (with_arms (with_frees k))
+arms_passed : (k : SessionState) → IsSampled k → IsSampled (with_arms (with_frees k))
 unfolding with_arms with_frees
 arms_passed k z = let now = z.now in record { until = until_armed k.last k.time (with_frees k).machine k.shown (omega (arith, now)) z.until; now = now }
 
-verdicts_passed : (samples : List NodeSample) (k : Kept) → IsSampled k → IsSampled (with_verdicts samples k)
+verdicts_passed : (samples : List NodeSample) (k : SessionState) → IsSampled k → IsSampled (with_verdicts samples k)
 unfolding with_verdicts
 verdicts_passed samples k z =
     let v = search_step k.time samples k.search in
@@ -122,12 +122,12 @@ verdicts_passed samples k z =
 next_later : (width time : ℕ) → 1 ≤ width → time < next_due width time
 next_later width time wide = omega (arith, le-div (time / width + 1) time width)
 
-next_passes : (width : ℕ) (k : Kept) → 1 ≤ width → IsSampled k → IsPassing (with_next width k)
+next_passes : (width : ℕ) (k : SessionState) → 1 ≤ width → IsSampled k → IsPassing (with_next width k)
 unfolding with_next
 next_passes width k wide z = let now = z.now in record { until = z.until; due = omega (arith, now, next_later width k.time wide) }
 
 -- due work comes later than the last samples
-due_later : (k : Kept) → IsPassing k → is_due k ≡ true → (with_quiet k).last < (with_quiet k).time
+due_later : (k : SessionState) → IsPassing k → is_due k ≡ true → (with_quiet k).last < (with_quiet k).time
 unfolding with_quiet
 due_later k z e =
     let low = z.due in
@@ -172,8 +172,8 @@ module _ (i : Inputs) where
         let q = state_quiet s in
         cond_both (is_due s.kept) (state_done i q) s Passes (λ e. done_passes q (due_later s.kept z.kept e) (quiet_passes s z)) (λ _. z)
 
-    tend_passes : (h n : ℕ) (s : State) → Passes s → Passes (tend i h n s)
-    unfolding tend
+    tend_passes : (h n : ℕ) (s : State) → Passes s → Passes (after_quantum i h n s)
+    unfolding after_quantum
     tend_passes h n s z =
         let a = state_admitted i s in
         let t = state_turned h n a in
@@ -198,25 +198,25 @@ module _ (i : Inputs) where
         let z = picked_passes in
         record {
           kept = record { until = until_armed k.last k.time (with_agenda k).machine k.shown (omega (arith, picked_early)) z.until; due = z.due };
-          none = none_first (opened i).shown;
+          none = none_first (opening_state i).shown;
         }
 
-    from_passes : (quanta : List Quantum) (s : State) → Passes s → Passes (work_from i quanta s)
+    from_passes : (quanta : List Quantum) (s : State) → Passes s → Passes (after_quanta_from i quanta s)
     from_passes [] s z = z
-    from_passes (q ∷ quanta) s z = from_passes quanta (tend i q.hart q.turns s) (tend_passes q.hart q.turns s z)
+    from_passes (q ∷ quanta) s z = from_passes quanta (after_quantum i q.hart q.turns s) (tend_passes q.hart q.turns s z)
 
-    work_passes : (quanta : List Quantum) → Passes (work i quanta)
-    unfolding work
+    work_passes : (quanta : List Quantum) → Passes (after_quanta i quanta)
+    unfolding after_quanta
     work_passes quanta = from_passes quanta (first_state i) first_passes
 
     -- ---- what is told
 
     -- after each quantum no sample is empty
-    pub none_worked : (quanta : List Quantum) → NoneEmptyIn (work i quanta).recorded
+    pub none_worked : (quanta : List Quantum) → NoneEmptyIn (after_quanta i quanta).recorded
     none_worked quanta = (work_passes quanta).none
 
-    none_behind : (s : State) → Passes s → NoneEmptyIn (closed i s).recorded
-    unfolding closed
+    none_behind : (s : State) → Passes s → NoneEmptyIn (final_state i s).recorded
+    unfolding final_state
     none_behind s z =
         let q = state_quiet s in
         let quiet = quiet_passes s z in
@@ -224,5 +224,5 @@ module _ (i : Inputs) where
         (λ e. none_more q (ltb-true q.kept.last q.kept.time e) quiet) (λ _. quiet.none)
 
     -- nor after the end
-    pub none_closed : (quanta : List Quantum) → NoneEmptyIn (closed i (work i quanta)).recorded
-    none_closed quanta = none_behind (work i quanta) (work_passes quanta)
+    pub none_closed : (quanta : List Quantum) → NoneEmptyIn (final_state i (after_quanta i quanta)).recorded
+    none_closed quanta = none_behind (after_quanta i quanta) (work_passes quanta)

@@ -13,7 +13,7 @@ use Rattle.w3_search.specs.Nodes.{is_waiting, waiting_of}
 use Rattle.w3_search.proofs.Numbering.{numbers_within}
 use Rattle.session_spec.specs.Inputs.{Inputs, planned}
 use Rattle.session_spec.specs.Searches.{bar_of_plan, bar_of_refusal, metric_of, rules_of}
-use Rattle.session_spec.specs.States.{Kept}
+use Rattle.session_spec.specs.States.{SessionState}
 use Rattle.session_spec.specs.Tests.{barred, in_force, is_full, must_wait, taken_at_once, with_cost, with_node, with_nodes, with_plan_of, with_test, with_tests, with_waiting}
 use Rattle.session_spec.proofs.Lists.{all_of, in_take}
 
@@ -30,17 +30,17 @@ taken_below k ns n h = waiting_below ns n (in_take k (waiting_of ns) n h)
 -- ---- nodes that are taken
 
 -- all but the machine, the search and what is shown stays, and so do the rules of the search
-pub record IsRest (k d : Kept) : Type 0 where
+pub record IsRest (k d : SessionState) : Type 0 where
   pub is : d ≡ record k { machine = d.machine; search = d.search; shown = d.shown }
   pub rules : (d.search).rules ≡ (k.search).rules
 
-rest_on : (k d e : Kept) → IsRest k d → IsRest d e → IsRest k e
+rest_on : (k d e : SessionState) → IsRest k d → IsRest d e → IsRest k e
 rest_on k d e a b = record {
-  is = b.is ∙ ap (λ (x : Kept). record x { machine = e.machine; search = e.search; shown = e.shown }) a.is;
+  is = b.is ∙ ap (λ (x : SessionState). record x { machine = e.machine; search = e.search; shown = e.shown }) a.is;
   rules = b.rules ∙ a.rules;
 }
 
-module _ (i : Inputs) (n : ℕ) (node : Node) (k : Kept) where
+module _ (i : Inputs) (n : ℕ) (node : Node) (k : SessionState) where
   barred_rest : (o : Option BarCause) → IsRest k (barred o n k)
   barred_rest None = record { is = refl; rules = refl }
   barred_rest (Some cause) = record { is = refl; rules = refl }
@@ -67,7 +67,7 @@ module _ (i : Inputs) (n : ℕ) (node : Node) (k : Kept) where
       by true = plan_rest (planned i (metric_of i node) node.focus)
       by false = record { is = refl; rules = refl }
 
-pub node_rest : (i : Inputs) (n : ℕ) (k : Kept) → IsRest k (with_node i n k)
+pub node_rest : (i : Inputs) (n : ℕ) (k : SessionState) → IsRest k (with_node i n k)
 unfolding with_node
 node_rest i n k = by (slice_get k.search.nodes n)
   where
@@ -75,7 +75,7 @@ node_rest i n k = by (slice_get k.search.nodes n)
     by None = record { is = refl; rules = refl }
     by (Some node) = waiting_rest i n node k
 
-pub nodes_rest : (i : Inputs) (ns : List ℕ) (k : Kept) → IsRest k (with_nodes i ns k)
+pub nodes_rest : (i : Inputs) (ns : List ℕ) (k : SessionState) → IsRest k (with_nodes i ns k)
 nodes_rest i [] k = record { is = refl; rules = refl }
 nodes_rest i (n ∷ ns) k = by (is_full k.machine.placer) (nodes_rest i ns (with_node i n k))
   where
@@ -83,7 +83,7 @@ nodes_rest i (n ∷ ns) k = by (is_full k.machine.placer) (nodes_rest i ns (with
     by true e = record { is = refl; rules = refl }
     by false e = rest_on k (with_node i n k) (with_nodes i ns (with_node i n k)) (node_rest i n k) e
 
-pub tests_rest : (i : Inputs) (k : Kept) → IsRest k (with_tests i k)
+pub tests_rest : (i : Inputs) (k : SessionState) → IsRest k (with_tests i k)
 unfolding with_tests
 tests_rest i k = by (nat_lt (rules_of i).decl.observed k.observed)
   where
@@ -93,23 +93,23 @@ tests_rest i k = by (nat_lt (rules_of i).decl.observed k.observed)
 
 -- ---- each of its fields that stays
 
-pub tests_is : (i : Inputs) (k : Kept) → with_tests i k ≡ record k { machine = (with_tests i k).machine; search = (with_tests i k).search; shown = (with_tests i k).shown }
+pub tests_is : (i : Inputs) (k : SessionState) → with_tests i k ≡ record k { machine = (with_tests i k).machine; search = (with_tests i k).search; shown = (with_tests i k).shown }
 tests_is i k = (tests_rest i k).is
 
-pub tests_refused : (i : Inputs) (k : Kept) → (with_tests i k).refused ≡ k.refused
-tests_refused i k = ap (λ (x : Kept). x.refused) (tests_is i k)
+pub tests_refused : (i : Inputs) (k : SessionState) → (with_tests i k).refused ≡ k.refused
+tests_refused i k = ap (λ (x : SessionState). x.refused) (tests_is i k)
 
-pub tests_wishes : (i : Inputs) (k : Kept) → (with_tests i k).wishes ≡ k.wishes
-tests_wishes i k = ap (λ (x : Kept). x.wishes) (tests_is i k)
+pub tests_wishes : (i : Inputs) (k : SessionState) → (with_tests i k).wishes ≡ k.wishes
+tests_wishes i k = ap (λ (x : SessionState). x.wishes) (tests_is i k)
 
-pub tests_time : (i : Inputs) (k : Kept) → (with_tests i k).time ≡ k.time
-tests_time i k = ap (λ (x : Kept). x.time) (tests_is i k)
+pub tests_time : (i : Inputs) (k : SessionState) → (with_tests i k).time ≡ k.time
+tests_time i k = ap (λ (x : SessionState). x.time) (tests_is i k)
 
-pub tests_due : (i : Inputs) (k : Kept) → (with_tests i k).due ≡ k.due
-tests_due i k = ap (λ (x : Kept). x.due) (tests_is i k)
+pub tests_due : (i : Inputs) (k : SessionState) → (with_tests i k).due ≡ k.due
+tests_due i k = ap (λ (x : SessionState). x.due) (tests_is i k)
 
-pub tests_worked : (i : Inputs) (k : Kept) → (with_tests i k).worked ≡ k.worked
-tests_worked i k = ap (λ (x : Kept). x.worked) (tests_is i k)
+pub tests_worked : (i : Inputs) (k : SessionState) → (with_tests i k).worked ≡ k.worked
+tests_worked i k = ap (λ (x : SessionState). x.worked) (tests_is i k)
 
-pub tests_samples : (i : Inputs) (k : Kept) → (with_tests i k).samples ≡ k.samples
-tests_samples i k = ap (λ (x : Kept). x.samples) (tests_is i k)
+pub tests_samples : (i : Inputs) (k : SessionState) → (with_tests i k).samples ≡ k.samples
+tests_samples i k = ap (λ (x : SessionState). x.samples) (tests_is i k)

@@ -11,13 +11,13 @@ use Rattle.pn_types.specs.declared.limits.TheConstants.{MAX_BUDGET}
 use Rattle.machine.specs.Events.{IsQuiet}
 use Rattle.machine.specs.Laws.{IsProgram}
 use Rattle.session_spec.specs.Inputs.{Inputs}
-use Rattle.session_spec.specs.States.{Kept, State}
+use Rattle.session_spec.specs.States.{SessionState, State}
 use Rattle.session_spec.specs.Due.{recorded_with, with_samples}
 use Rattle.session_spec.specs.Plans.{ArePlansGood}
 use Rattle.session_spec.specs.Readings.{lasts_armed, lasts_now, recorded_read}
-use Rattle.session_spec.specs.Reads.{IsSound}
+use Rattle.session_spec.specs.Reads.{IsSoundState}
 use Rattle.session_spec.specs.Due.{with_frees}
-use Rattle.session_spec.specs.Work.{closed, first_state, is_due, state_admitted, state_armed, state_done, state_ended, state_judged, state_last, state_quiet, state_sampled, state_turned, tend, tests_now, work, work_from}
+use Rattle.session_spec.specs.Work.{final_state, first_state, is_due, state_admitted, state_armed, state_done, state_ended, state_judged, state_last, state_quiet, state_sampled, state_turned, after_quantum, tests_now, after_quanta, after_quanta_from}
 use Rattle.session_spec.proofs.Begins.{opens}
 use Rattle.session_spec.proofs.Samples.{recorded_is}
 use Rattle.session_spec.proofs.Sound.{admitted_sound, armed_sound, ended_sound, handed_sound, is_quiet, judged_sound, next_sound, quiet_sound, sampled_sound, turned_sound}
@@ -35,7 +35,7 @@ unfolding with_samples
 sampled_now i s = refl
 
 module _ (i : Inputs) (good : ArePlansGood i) where
-  done_sound : (s : State) (lasts : List ℕ) → IsSound i s lasts → IsQuiet s.kept.machine.core → IsSound i (state_done i s) (lasts_done i s lasts)
+  done_sound : (s : State) (lasts : List ℕ) → IsSoundState i s lasts → IsQuiet s.kept.machine.core → IsSoundState i (state_done i s) (lasts_done i s lasts)
   done_sound s lasts k quiet =
       let read = lasts_now i s.kept.machine s.kept.shown lasts in
       let sampled = state_sampled i s in
@@ -44,19 +44,19 @@ module _ (i : Inputs) (good : ArePlansGood i) where
       let j = judged_sound i (state_armed sampled) armed_lasts a (tests_now i s) in
       next_sound i (state_judged (tests_now i s) (state_armed sampled)) armed_lasts j i.settings.width
 
-  handed_on_sound : (h n : ℕ) (s : State) (lasts : List ℕ) → IsSound i s lasts → IsSound i (handed_on i h n s) (lasts_handed i s lasts)
+  handed_on_sound : (h n : ℕ) (s : State) (lasts : List ℕ) → IsSoundState i s lasts → IsSoundState i (handed_on i h n s) (lasts_handed i s lasts)
   handed_on_sound h n s lasts k =
       let read = lasts_handed i s lasts in
       let a = admitted_sound i s lasts k good in
       let t = turned_sound i (state_admitted i s) read a h n in
       handed_sound i (state_turned h n (state_admitted i s)) read t
 
-  tend_sound : (h n : ℕ) (s : State) (lasts : List ℕ) → IsSound i s lasts → IsSound i (tend i h n s) (lasts_tended i h n s lasts)
-  unfolding tend
+  tend_sound : (h n : ℕ) (s : State) (lasts : List ℕ) → IsSoundState i s lasts → IsSoundState i (after_quantum i h n s) (lasts_tended i h n s lasts)
+  unfolding after_quantum
   tend_sound h n s lasts k = by (is_due (handed_on i h n s).kept)
     where
       by : (w : Bool)
-          → IsSound i (cond w (state_done i (state_quiet (handed_on i h n s))) (handed_on i h n s)) (cond w (lasts_done i (state_quiet (handed_on i h n s)) (lasts_handed i s lasts)) (lasts_handed i s lasts))
+          → IsSoundState i (cond w (state_done i (state_quiet (handed_on i h n s))) (handed_on i h n s)) (cond w (lasts_done i (state_quiet (handed_on i h n s)) (lasts_handed i s lasts)) (lasts_handed i s lasts))
       by true =
           let b = handed_on i h n s in
           let read = lasts_handed i s lasts in
@@ -64,16 +64,16 @@ module _ (i : Inputs) (good : ArePlansGood i) where
           done_sound (state_quiet b) read (quiet_sound i b read z) (is_quiet i b read z)
       by false = handed_on_sound h n s lasts k
 
-  from_sound : (quanta : List Quantum) (s : State) (lasts : List ℕ) → IsSound i s lasts → IsSound i (work_from i quanta s) (lasts_from i quanta s lasts)
+  from_sound : (quanta : List Quantum) (s : State) (lasts : List ℕ) → IsSoundState i s lasts → IsSoundState i (after_quanta_from i quanta s) (lasts_from i quanta s lasts)
   from_sound [] s lasts k = k
-  from_sound (q ∷ quanta) s lasts k = from_sound quanta (tend i q.hart q.turns s) (lasts_tended i q.hart q.turns s lasts) (tend_sound q.hart q.turns s lasts k)
+  from_sound (q ∷ quanta) s lasts k = from_sound quanta (after_quantum i q.hart q.turns s) (lasts_tended i q.hart q.turns s lasts) (tend_sound q.hart q.turns s lasts k)
 
-  pub work_sound : (quanta : List Quantum) → IsProgram i.image → IsSound i (work i quanta) (lasts_of i quanta)
-  unfolding work lasts_of
+  pub work_sound : (quanta : List Quantum) → IsProgram i.image → IsSoundState i (after_quanta i quanta) (lasts_of i quanta)
+  unfolding after_quanta lasts_of
   work_sound quanta p = from_sound quanta (first_state i) (lasts_first i) (opens i p good)
 
   -- after the end
-  last_sound : (s : State) (lasts : List ℕ) → IsSound i s lasts → IsQuiet s.kept.machine.core → IsSound i (state_last i s) (lasts_now i s.kept.machine s.kept.shown lasts)
+  last_sound : (s : State) (lasts : List ℕ) → IsSoundState i s lasts → IsQuiet s.kept.machine.core → IsSoundState i (state_last i s) (lasts_now i s.kept.machine s.kept.shown lasts)
   last_sound s lasts k quiet =
       let read = lasts_now i s.kept.machine s.kept.shown lasts in
       judged_sound i (state_sampled i s) read (sampled_sound i s lasts k quiet) (tests_now i s)
@@ -81,22 +81,22 @@ module _ (i : Inputs) (good : ArePlansGood i) where
   -- and all that is armed was sampled to the end
   pub record IsEndSound (s : State) : Type 0 where
     pub lasts : List ℕ
-    pub sound : IsSound i s lasts
+    pub sound : IsSoundState i s lasts
     pub last : s.kept.last ≡ s.kept.time
 
-  verdicts_last : (samples : List NodeSample) (k : Kept) → ((with_verdicts samples k).last ≡ k.last) × ((with_verdicts samples k).time ≡ k.time)
+  verdicts_last : (samples : List NodeSample) (k : SessionState) → ((with_verdicts samples k).last ≡ k.last) × ((with_verdicts samples k).time ≡ k.time)
   unfolding with_verdicts
   verdicts_last samples k =
       let v = search_step k.time samples k.search in
       let e = tests_alone v.drops (record k { search = v }) in
-      (ap (λ (z : Kept). z.last) e, ap (λ (z : Kept). z.time) e)
+      (ap (λ (z : SessionState). z.last) e, ap (λ (z : SessionState). z.time) e)
 
   ended_last : (s : State) → s.kept.last ≡ s.kept.time → (state_ended s).kept.last ≡ (state_ended s).kept.time
   unfolding with_search_end
   ended_last s e = e
 
-  pub closed_sound : (s : State) (lasts : List ℕ) → IsSound i s lasts → IsEndSound (closed i s)
-  unfolding closed
+  pub closed_sound : (s : State) (lasts : List ℕ) → IsSoundState i s lasts → IsEndSound (final_state i s)
+  unfolding final_state
   closed_sound s lasts k = by (nat_lt (state_quiet s).kept.last (state_quiet s).kept.time) refl
     where
       by : (b : Bool) → nat_lt (state_quiet s).kept.last (state_quiet s).kept.time ≡ b → IsEndSound (state_ended (cond b (state_last i (state_quiet s)) (state_quiet s)))
@@ -118,7 +118,7 @@ module _ (i : Inputs) (good : ArePlansGood i) where
 
   -- ---- what is told
 
-  are_read : i.settings.budget ≤ MAX_BUDGET → (s : State) (lasts : List ℕ) → IsSound i s lasts → AreRead i (state_quiet s) lasts
+  are_read : i.settings.budget ≤ MAX_BUDGET → (s : State) (lasts : List ℕ) → IsSoundState i s lasts → AreRead i (state_quiet s) lasts
   are_read low s lasts k =
       let q = state_quiet s in
       let z = quiet_sound i s lasts k in
@@ -132,15 +132,15 @@ module _ (i : Inputs) (good : ArePlansGood i) where
 
 pub runs_told : RunsTold
 runs_told = record {
-  works = λ i quanta p good. is_run i (work i quanta) (lasts_of i quanta) (work_sound i good quanta p);
+  works = λ i quanta p good. is_run i (after_quanta i quanta) (lasts_of i quanta) (work_sound i good quanta p);
   closes = λ i quanta p good.
-      let c = closed_sound i good (work i quanta) (lasts_of i quanta) (work_sound i good quanta p) in
-      is_run i (closed i (work i quanta)) c.lasts c.sound;
+      let c = closed_sound i good (after_quanta i quanta) (lasts_of i quanta) (work_sound i good quanta p) in
+      is_run i (final_state i (after_quanta i quanta)) c.lasts c.sound;
 }
 
 pub samples_read : SamplesRead
 samples_read i quanta p good low =
-    let s = work i quanta in
+    let s = after_quanta i quanta in
     let z = work_sound i good quanta p in
     record {
       due = λ h n. are_read i good low (handed_on i h n s) (lasts_handed i s (lasts_of i quanta)) (handed_on_sound i good h n s (lasts_of i quanta) z);

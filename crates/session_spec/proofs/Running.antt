@@ -18,9 +18,9 @@ use Rattle.w3_search.specs.declared.node.NodeSample.{NodeSample}
 use Rattle.w3_search.specs.declared.node.NodeState.{NodeState}
 use Rattle.w3_search.specs.declared.node.NodeState.TheVariants.{Active, Confirmed, Rejected, Unfinished}
 use Rattle.w3_search.specs.Nodes.{is_active, is_open, is_waiting, sampled}
-use Rattle.w3_search.specs.Steps.{judged, may_take, with_sample}
-use Rattle.session_spec.specs.declared.data.Shown.{Shown}
-use Rattle.session_spec.specs.Inputs.{Inputs, harts_of, planned}
+use Rattle.w3_search.specs.Steps.{with_verdict, may_take, with_sample}
+use Rattle.session_spec.specs.declared.data.MetricFocusPair.{MetricFocusPair}
+use Rattle.session_spec.specs.Inputs.{Inputs, harts_of_focus, planned}
 use Rattle.session_spec.specs.Searches.{metric_of, rules_of}
 use Rattle.session_spec.specs.Due.{measure_by, measured}
 use Rattle.session_spec.specs.Verdicts.{node_sample, ticks_in}
@@ -62,25 +62,25 @@ ruled_unfinished false = refl
 
 -- ---- what is measured of a test
 
-measured_test : (i : Inputs) (owns : List ℕ) (x : Shown) (time : ℕ) (node : Node) (plan : Plan) (at : ℕ) → x.metric ≡ metric_of i node → x.focus ≡ node.focus
+measured_test : (i : Inputs) (owns : List ℕ) (x : MetricFocusPair) (time : ℕ) (node : Node) (plan : Plan) (at : ℕ) → x.metric ≡ metric_of i node → x.focus ≡ node.focus
     → planned i (metric_of i node) node.focus ≡ Ok plan → x.armed ≡ Some at
-    → measured i owns x time ≡ measure (program_of i.image) plan (harts_of i node.focus) at x.from time owns (start i.image i.settings.harts)
+    → measured i owns x time ≡ measure (program_of i.image) plan (harts_of_focus i node.focus) at x.from time owns (start i.image i.settings.harts)
 unfolding measured
 measured_test i owns x time node plan at metric focus is armed =
-    ap (λ (m : ℕ). measure_by (planned i m x.focus) i (harts_of i x.focus) (unwrap_or x.armed 0) x.from time owns) metric
-    ∙ (ap (λ (f : Focus). measure_by (planned i (metric_of i node) f) i (harts_of i f) (unwrap_or x.armed 0) x.from time owns) focus
-    ∙ (ap (λ (r : Result Plan PlanFault). measure_by r i (harts_of i node.focus) (unwrap_or x.armed 0) x.from time owns) is
-    ∙ ap (λ (o : Option ℕ). measure (program_of i.image) plan (harts_of i node.focus) (unwrap_or o 0) x.from time owns (start i.image i.settings.harts)) armed))
+    ap (λ (m : ℕ). measure_by (planned i m x.focus) i (harts_of_focus i x.focus) (unwrap_or x.armed 0) x.from time owns) metric
+    ∙ (ap (λ (f : Focus). measure_by (planned i (metric_of i node) f) i (harts_of_focus i f) (unwrap_or x.armed 0) x.from time owns) focus
+    ∙ (ap (λ (r : Result Plan PlanFault). measure_by r i (harts_of_focus i node.focus) (unwrap_or x.armed 0) x.from time owns) is
+    ∙ ap (λ (o : Option ℕ). measure (program_of i.image) plan (harts_of_focus i node.focus) (unwrap_or o 0) x.from time owns (start i.image i.settings.harts)) armed))
 
 -- a node's metric is that of its hypothesis
-pub metric_sampled : (i : Inputs) (hs : List Hypothesis) (w t : ℕ) (s : NodeSample) (n : Node) → metric_of i (judged hs w (sampled t s n)) ≡ metric_of i n
+pub metric_sampled : (i : Inputs) (hs : List Hypothesis) (w t : ℕ) (s : NodeSample) (n : Node) → metric_of i (with_verdict hs w (sampled t s n)) ≡ metric_of i n
 unfolding metric_of
 metric_sampled i hs w t s n = refl
 
 -- ---- one sample
 
 -- a test that runs
-module _ (i : Inputs) (owns : List ℕ) (time : ℕ) (timed : time ≡ length owns) (n : ℕ) (x : Shown) (y : Node) (plan : Plan) (focus : x.focus ≡ y.focus) (r : IsRunning i owns y plan x) where
+module _ (i : Inputs) (owns : List ℕ) (time : ℕ) (timed : time ≡ length owns) (n : ℕ) (x : MetricFocusPair) (y : Node) (plan : Plan) (focus : x.focus ≡ y.focus) (r : IsRunning i owns y plan x) where
   before_now : x.from ≤ time
   before_now = let z : x.from ≤ length owns = r.past in omega (arith, timed)
 
@@ -92,23 +92,23 @@ module _ (i : Inputs) (owns : List ℕ) (time : ℕ) (timed : time ≡ length ow
       by (inl z) = cond-true (y.seen == 0) x.from y.from z ∙ r.fresh z
       by (inr z) = cond-false (y.seen == 0) x.from y.from z ∙ (r.going z).0
 
-  ticks_more : y.ticks + (node_sample i owns time n x).ticks ≡ ticks_in owns (harts_of i y.focus) r.at time
+  ticks_more : y.ticks + (node_sample i owns time n x).ticks ≡ ticks_in owns (harts_of_focus i y.focus) r.at time
   ticks_more =
-      let harts = harts_of i y.focus in
+      let harts = harts_of_focus i y.focus in
       ap (λ (v : ℕ). v + (node_sample i owns time n x).ticks) r.ticks
-      ∙ (ap (λ (g : Focus). ticks_in owns harts r.at x.from + ticks_in owns (harts_of i g) x.from time) focus
+      ∙ (ap (λ (g : Focus). ticks_in owns harts r.at x.from + ticks_in owns (harts_of_focus i g) x.from time) focus
       ∙ ticks_add owns harts r.at x.from time r.ordered before_now)
 
   -- it takes the sample
   pub may : time < 2 ^ 64 → y.state ≡ Active → may_take (node_sample i owns time n x) y ≡ true
   may low active =
       let s = node_sample i owns time n x in
-      let few : ticks_in owns (harts_of i y.focus) r.at time < 2 ^ 64 = omega (arith, ticks_few owns (harts_of i y.focus) r.at time, low) in
+      let few : ticks_in owns (harts_of_focus i y.focus) r.at time < 2 ^ 64 = omega (arith, ticks_few owns (harts_of_focus i y.focus) r.at time, low) in
       let small : y.ticks + s.ticks < 2 ^ 64 = omega (arith, ticks_more, few) in
       ap (λ (q : NodeState). is_active q && nat_lt (y.ticks + s.ticks) (2 ^ 64)) active ∙ lt-ltb (y.ticks + s.ticks) (2 ^ 64) small
 
 module _ (i : Inputs) (owns : List ℕ) (time : ℕ) (timed : time ≡ length owns) (low : time < 2 ^ 64) (ns : List Node) (all : Each (IsNode i owns) ns)
-    (n : ℕ) (x : Shown) (o : IsTest i owns Armed ns n x) where
+    (n : ℕ) (x : MetricFocusPair) (o : IsTest i owns Armed ns n x) where
   abbrev s : NodeSample
   s = node_sample i owns time n x
 
@@ -122,16 +122,16 @@ module _ (i : Inputs) (owns : List ℕ) (time : ℕ) (timed : time ≡ length ow
   y = o.node
 
   abbrev m : Node
-  m = judged hs window (sampled time s y)
+  m = with_verdict hs window (sampled time s y)
 
   abbrev f : Node → Node
-  f z = cond (may_take s z) (judged hs window (sampled time s z)) z
+  f z = cond (may_take s z) (with_verdict hs window (sampled time s z)) z
 
   abbrev r : IsRunning i owns y o.plan x
   r = o.running refl
 
   abbrev harts : List ℕ
-  harts = harts_of i y.focus
+  harts = harts_of_focus i y.focus
 
   abbrev ended : Bool
   ended = (y.seen + 1) == window

@@ -12,9 +12,9 @@ use Rattle.instrumented.proofs.Acts.{whole_of}
 use Rattle.session_spec.specs.Inputs.{Inputs}
 use Rattle.session_spec.specs.States.{State}
 use Rattle.session_spec.specs.Run.{IsRun}
-use Rattle.session_spec.specs.Reads.{IsSound}
+use Rattle.session_spec.specs.Reads.{IsSoundState}
 
-pub is_run : (i : Inputs) (s : State) (lasts : List ℕ) → IsSound i s lasts → IsRun i s
+pub is_run : (i : Inputs) (s : State) (lasts : List ℕ) → IsSoundState i s lasts → IsRun i s
 is_run i s lasts k =
     let t = k.tied in
     let es = events_of t.acts (first_scene i.image i.settings.harts i.settings.budget i.settings.instruments) in

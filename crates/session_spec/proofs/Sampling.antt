@@ -8,7 +8,7 @@ use Rattle.instrument.specs.declared.number.State.TheVariants.{Placing, Armed, L
 use Rattle.w3_search.specs.declared.node.Node.{Node}
 use Rattle.w3_search.specs.declared.node.NodeSample.{NodeSample}
 use Rattle.w3_search.specs.Steps.{with_samples}
-use Rattle.session_spec.specs.declared.data.Shown.{Shown}
+use Rattle.session_spec.specs.declared.data.MetricFocusPair.{MetricFocusPair}
 use Rattle.session_spec.specs.Inputs.{Inputs}
 use Rattle.session_spec.specs.Searches.{rules_of}
 use Rattle.session_spec.specs.Due.{is_armed, is_armed_state, sampled_to}
@@ -18,7 +18,7 @@ use Rattle.session_spec.proofs.Running.{IsEnded, each_sampled, elsewhere, goes_s
 use Rattle.session_spec.proofs.Seen.{AreAlone, AreTests, IsNode, IsTaken, IsTest, NotOf, OneTest, no_node, tags}
 
 -- a test whose node is as it was
-pub test_moved : (i : Inputs) (owns : List ℕ) (q : Stage) (ns ms : List Node) (n : ℕ) (x : Shown) → slice_get ms n ≡ slice_get ns n → IsTest i owns q ns n x → IsTest i owns q ms n x
+pub test_moved : (i : Inputs) (owns : List ℕ) (q : Stage) (ns ms : List Node) (n : ℕ) (x : MetricFocusPair) → slice_get ms n ≡ slice_get ns n → IsTest i owns q ns n x → IsTest i owns q ms n x
 test_moved i owns q ns ms n x e o =
     record { node = o.node; stands = e ∙ o.stands; active = o.active; metric = o.metric; focus = o.focus; plan = o.plan; planned = o.planned; placing = o.placing; running = o.running }
 
@@ -26,7 +26,7 @@ ended_moved : (ns ms : List Node) (n : ℕ) → slice_get ms n ≡ slice_get ns 
 ended_moved ns ms n e o = record { node = o.node; stands = e ∙ o.stands; ended = o.ended }
 
 module _ (i : Inputs) (owns : List ℕ) (p : Placements) where
-  others_moved : (k : ℕ) (ns ms : List Node) (xs : List Shown) → ((n : ℕ) → (n ≡ k → ⊥) → slice_get ms n ≡ slice_get ns n) → NotOf k (tags xs)
+  others_moved : (k : ℕ) (ns ms : List Node) (xs : List MetricFocusPair) → ((n : ℕ) → (n ≡ k → ⊥) → slice_get ms n ≡ slice_get ns n) → NotOf k (tags xs)
       → AreTests i owns p ns no_node xs → AreTests i owns p ms no_node xs
   others_moved k ns ms [] f a h = tt
   others_moved k ns ms (x ∷ xs) f a h = (
@@ -46,21 +46,21 @@ module _ (i : Inputs) (owns : List ℕ) (p : Placements) (time : ℕ) (timed : t
   with ss ns = with_samples (rules_of i).hypotheses (rules_of i).decl.window time ss ns
 
   -- what the samples of these made of the nodes
-  pub record Ran (ns ms : List Node) (xs : List Shown) : Type 0 where
+  pub record Ran (ns ms : List Node) (xs : List MetricFocusPair) : Type 0 where
     pub other : (n : ℕ) → NotOf n (tags xs) → slice_get ms n ≡ slice_get ns n
     pub nodes : Each (IsNode i owns) ms
     pub taken : (n : ℕ) → IsTaken ns n → IsTaken ms n
     pub tests : AreTests i owns p ms (IsEnded ms) (map (sampled_to p time) xs)
 
   -- one that isn't armed is as it was
-  not_sampled : (ns ms : List Node) (x : Shown) → is_armed p x ≡ false → ((n : ℕ) → x.node ≡ Some n → slice_get ms n ≡ slice_get ns n) → OneTest i owns p ns no_node x
+  not_sampled : (ns ms : List Node) (x : MetricFocusPair) → is_armed p x ≡ false → ((n : ℕ) → x.node ≡ Some n → slice_get ms n ≡ slice_get ns n) → OneTest i owns p ns no_node x
       → OneTest i owns p ms (IsEnded ms) (sampled_to p time x)
   not_sampled ns ms x e f o =
       subst (OneTest i owns p ms (IsEnded ms)) (sym (cond-false (is_armed p x) (record x { from = time }) x e))
       (λ n k l. ⊎_elim (λ d. absurd d) (λ (t : IsTest i owns (state_of p x.instrument.n) ns n x). inr (test_moved i owns (state_of p x.instrument.n) ns ms n x (f n k) t)) (o n k l))
 
   -- the first of them
-  module _ (x : Shown) (xs : List Shown) (ns : List Node) (h : AreTests i owns p ns no_node (x ∷ xs)) (a : AreAlone (tags (x ∷ xs))) (all : Each (IsNode i owns) ns) where
+  module _ (x : MetricFocusPair) (xs : List MetricFocusPair) (ns : List Node) (h : AreTests i owns p ns no_node (x ∷ xs)) (a : AreAlone (tags (x ∷ xs))) (all : Each (IsNode i owns) ns) where
     abbrev rest : List NodeSample
     rest = node_samples i p owns time xs
 
@@ -126,6 +126,6 @@ module _ (i : Inputs) (owns : List ℕ) (p : Placements) (time : ℕ) (timed : t
     by_node (Some n) is again =
         subst (λ (ss : List NodeSample). Ran ns (with ss ns) (x ∷ xs)) (sym (ap (λ (o : Option ℕ). samples_by o) is)) (some n is (is_armed p x) refl again)
 
-  pub run : (xs : List Shown) (ns : List Node) → AreTests i owns p ns no_node xs → AreAlone (tags xs) → Each (IsNode i owns) ns → Ran ns (with (node_samples i p owns time xs) ns) xs
+  pub run : (xs : List MetricFocusPair) (ns : List Node) → AreTests i owns p ns no_node xs → AreAlone (tags xs) → Each (IsNode i owns) ns → Ran ns (with (node_samples i p owns time xs) ns) xs
   run [] ns h a all = record { other = λ n o. refl; nodes = all; taken = λ n t. t; tests = tt }
   run (x ∷ xs) ns h a all = by_node x xs ns h a all x.node refl (λ n1 h1 all1. run xs n1 h1 a.1 all1)

@@ -10,17 +10,17 @@ use Rattle.instrument.specs.Scenes.{Admits, Drops}
 use Rattle.instrument.specs.declared.number.State.{State as Stage}
 use Rattle.instrument.specs.declared.number.State.TheVariants.{Placing, Armed}
 use Rattle.instrument.proofs.Numbers as numbers
-use Rattle.instrumented.specs.Instrumented.{Instrumented, done}
+use Rattle.instrumented.specs.Instrumented.{Instrumented, after_act}
 use Rattle.w3_search.specs.declared.node.Node.{Node}
 use Rattle.w3_search.specs.declared.node.NodeState.{NodeState}
 use Rattle.w3_search.specs.declared.node.NodeState.TheVariants.{Waiting, Active, Confirmed, Rejected, Unfinished, Barred}
-use Rattle.w3_search.specs.Nodes.{changed, in_state, is_open, is_waiting}
+use Rattle.w3_search.specs.Nodes.{with_node_changed, in_state, is_open, is_waiting}
 use Rattle.w3_search.specs.Steps.{SearchData, with_state}
-use Rattle.session_spec.specs.declared.data.Shown.{Shown}
+use Rattle.session_spec.specs.declared.data.MetricFocusPair.{MetricFocusPair}
 use Rattle.session_spec.specs.Inputs.{Inputs, planned}
 use Rattle.session_spec.specs.Searches.{metric_of, rules_of}
-use Rattle.session_spec.specs.States.{Kept}
-use Rattle.session_spec.specs.Admission.{admitted, shown_next}
+use Rattle.session_spec.specs.States.{SessionState}
+use Rattle.session_spec.specs.Admission.{with_admitted, shown_next}
 use Rattle.session_spec.specs.Tests.{tested, tests_next}
 use Rattle.session_spec.proofs.Standing.{Since}
 use Rattle.session_spec.proofs.Acting.{admitted_placer, done_since}
@@ -40,17 +40,17 @@ unfolding metric_of
 metric_active i x = refl
 
 module _ (i : Inputs) (owns : List ℕ) where
-  seen_beside : (k j : Kept) → IsBeside k j → IsSeen i owns k → IsSeen i owns j
+  seen_beside : (k j : SessionState) → IsBeside k j → IsSeen i owns k → IsSeen i owns j
   seen_beside k j b s =
       subst (IsSeen i owns)
       (ap (λ (m : Instrumented). record j { machine = m; shown = k.shown; search = k.search; time = k.time }) (sym b.machine)
-      ∙ (ap (λ (ss : List Shown). record j { shown = ss; search = k.search; time = k.time }) (sym b.shown)
+      ∙ (ap (λ (ss : List MetricFocusPair). record j { shown = ss; search = k.search; time = k.time }) (sym b.shown)
       ∙ (ap (λ (v : SearchData). record j { search = v; time = k.time }) (sym b.search)
       ∙ ap (λ (t : ℕ). record j { time = t }) (sym b.time))))
       (record { rules = s.rules; time = s.time; roster = s.roster; below = s.below; apart = s.apart; alone = s.alone; taken = s.taken; nodes = s.nodes; tests = s.tests })
 
   -- a machine in which no instrument was armed since
-  pub seen_machine : (k : Kept) (m : Instrumented) → Since k.machine.placer m.placer → IsSeen i owns k → IsSeen i owns (record k { machine = m })
+  pub seen_machine : (k : SessionState) (m : Instrumented) → Since k.machine.placer m.placer → IsSeen i owns k → IsSeen i owns (record k { machine = m })
   seen_machine k m a s = record {
     rules = s.rules;
     time = s.time;
@@ -90,7 +90,7 @@ module _ (i : Inputs) (owns : List ℕ) where
   }
 
   -- the search with a node in another state
-  seen_state : (k : Kept) (n : ℕ) (x : Node) (q : NodeState) → slice_get k.search.nodes n ≡ Some x → is_waiting x.state ≡ true → (IsNode i owns x → IsNode i owns (in_state q x))
+  seen_state : (k : SessionState) (n : ℕ) (x : Node) (q : NodeState) → slice_get k.search.nodes n ≡ Some x → is_waiting x.state ≡ true → (IsNode i owns x → IsNode i owns (in_state q x))
       → IsSeen i owns k → IsSeen i owns (record k { search = with_state n q k.search })
   seen_state k n x q e w f s =
       let g = grows_state (IsNode i owns) no_node k.search.nodes n x q e w f in
@@ -101,19 +101,19 @@ module _ (i : Inputs) (owns : List ℕ) where
         below = s.below;
         apart = s.apart;
         alone = s.alone;
-        taken = taken_grown (IsNode i owns) no_node k.search.nodes (changed (in_state q) n k.search.nodes) (tags k.shown) g s.taken;
+        taken = taken_grown (IsNode i owns) no_node k.search.nodes (with_node_changed (in_state q) n k.search.nodes) (tags k.shown) g s.taken;
         nodes = g.each s.nodes;
-        tests = tests_grown i owns k.machine.placer (IsNode i owns) no_node no_node no_node k.search.nodes (changed (in_state q) n k.search.nodes) k.shown g (λ n h. h) (λ n h. h) s.tests;
+        tests = tests_grown i owns k.machine.placer (IsNode i owns) no_node no_node no_node k.search.nodes (with_node_changed (in_state q) n k.search.nodes) k.shown g (λ n h. h) (λ n h. h) s.tests;
       }
 
   -- ---- an instrument more
 
-  module _ (k : Kept) (plan : Plan) (cost : Option ℕ) (placer : Placements) (e : admission k.machine.placer plan cost ≡ Ok placer) (s : IsSeen i owns k) where
+  module _ (k : SessionState) (plan : Plan) (cost : Option ℕ) (placer : Placements) (e : admission k.machine.placer plan cost ≡ Ok placer) (s : IsSeen i owns k) where
     abbrev p : Placements
     p = k.machine.placer
 
     abbrev m : Instrumented
-    m = done (Admits plan cost) k.machine
+    m = after_act (Admits plan cost) k.machine
 
     placer_is : m.placer ≡ placer
     placer_is = admitted_placer plan cost k.machine ∙ ap (or_same p) e
@@ -125,7 +125,7 @@ module _ (i : Inputs) (owns : List ℕ) where
     new_placing = ap (λ (q : Placements). state_of q p.count) placer_is ∙ (numbers.admissions_tell p plan cost placer (s.roster).numbered e).state
 
     -- after the nodes that the search has then
-    seen_more : (v : SearchData) (x : Shown) → v.rules ≡ rules_of i → Grows (IsNode i owns) no_node k.search.nodes v.nodes → x.instrument.n ≡ p.count
+    seen_more : (v : SearchData) (x : MetricFocusPair) → v.rules ≡ rules_of i → Grows (IsNode i owns) no_node k.search.nodes v.nodes → x.instrument.n ≡ p.count
         → ((n : ℕ) → x.node ≡ Some n → IsTaken v.nodes n)
         → ((n : ℕ) → x.node ≡ Some n → NotOf n (tags k.shown)) → OneTest i owns m.placer v.nodes no_node x → IsSeen i owns (record k { machine = m; search = v; shown = k.shown ++ x ∷ [] })
     seen_more v x rules g number t a o =
@@ -145,20 +145,20 @@ module _ (i : Inputs) (owns : List ℕ) where
         }
 
   -- the instrument of a wish
-  seen_wished : (k : Kept) (plan : Plan) (w : CheckedWish) (placer : Placements) → admission k.machine.placer plan None ≡ Ok placer → IsSeen i owns k
-      → IsSeen i owns (record (admitted plan k) { shown = k.shown ++ shown_next w k ∷ [] })
+  seen_wished : (k : SessionState) (plan : Plan) (w : CheckedWish) (placer : Placements) → admission k.machine.placer plan None ≡ Ok placer → IsSeen i owns k
+      → IsSeen i owns (record (with_admitted plan k) { shown = k.shown ++ shown_next w k ∷ [] })
   seen_wished k plan w placer e s =
       seen_more k plan None placer e s k.search (shown_next w k) s.rules (grows_none (IsNode i owns) no_node k.search.nodes) refl (λ n q. absurd cc) (λ n q. absurd cc) (λ n q l. absurd cc)
 
   -- the instrument of a node
-  seen_tested : (k : Kept) (n : ℕ) (x : Node) (plan : Plan) (placer : Placements) → slice_get k.search.nodes n ≡ Some x → is_waiting x.state ≡ true → planned i (metric_of i x) x.focus ≡ Ok plan
+  seen_tested : (k : SessionState) (n : ℕ) (x : Node) (plan : Plan) (placer : Placements) → slice_get k.search.nodes n ≡ Some x → is_waiting x.state ≡ true → planned i (metric_of i x) x.focus ≡ Ok plan
       → admission k.machine.placer plan (Some (rules_of i).decl.cost) ≡ Ok placer → IsSeen i owns k → IsSeen i owns (tested i n x plan k)
   seen_tested k n x plan placer stands waits is e s =
       let v = with_state n Active k.search in
       let cost = Some (rules_of i).decl.cost in
       let new = tests_next i n x k in
       let placed = new_placing k plan cost placer e s in
-      let q = (done (Admits plan cost) k.machine).placer in
+      let q = (after_act (Admits plan cost) k.machine).placer in
       let here = changed_here (in_state Active) k.search.nodes n x stands in
       let same = metric_active i x in
       let blank = (s.nodes n x stands).blank waits in
@@ -182,7 +182,7 @@ module _ (i : Inputs) (owns : List ℕ) where
   pub seen_keeps : Keeps i (IsSeen i owns)
   seen_keeps = record {
     beside = seen_beside;
-    drops = λ k n s. seen_machine k (done (Drops n) k.machine) (done_since (Drops n) tt k.machine s.roster) s;
+    drops = λ k n s. seen_machine k (after_act (Drops n) k.machine) (done_since (Drops n) tt k.machine s.roster) s;
     wished = λ k plan w placer is e s. seen_wished k plan w placer e s;
     barred = λ k n x cause stands waits by s. seen_state k n x (Barred cause) stands waits (λ o. barred_node cause x) s;
     tested = λ k n x plan placer stands waits is room e s. seen_tested k n x plan placer stands waits is e s;

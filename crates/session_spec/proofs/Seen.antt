@@ -14,13 +14,13 @@ use Rattle.w3_search.specs.declared.node.Node.{Node}
 use Rattle.w3_search.specs.declared.node.NodeState.{NodeState}
 use Rattle.w3_search.specs.declared.node.NodeState.TheVariants.{Active, Confirmed, Rejected, Unfinished}
 use Rattle.w3_search.specs.Nodes.{is_open, is_waiting}
-use Rattle.session_spec.specs.declared.data.Shown.{Shown}
-use Rattle.session_spec.specs.Inputs.{Inputs, harts_of, planned}
+use Rattle.session_spec.specs.declared.data.MetricFocusPair.{MetricFocusPair}
+use Rattle.session_spec.specs.Inputs.{Inputs, harts_of_focus, planned}
 use Rattle.session_spec.specs.Searches.{metric_of, rules_of}
-use Rattle.session_spec.specs.States.{Kept}
+use Rattle.session_spec.specs.States.{SessionState}
 use Rattle.session_spec.specs.Due.{measure_at}
 use Rattle.session_spec.specs.Verdicts.{ticks_in}
-use Rattle.session_spec.specs.Rosters.{AreBelow, IsRoster}
+use Rattle.session_spec.specs.Rosters.{AreBelow, AreNumbered}
 use Rattle.session_spec.proofs.Grown.{Each}
 
 -- ---- nodes
@@ -43,8 +43,8 @@ pub record IsRuled (i : Inputs) (owns : List ℕ) (n : Node) : Type 0 where
   pub ordered : n.from ≤ n.to
   pub past : n.to ≤ length owns
   pub window : n.seen ≡ (rules_of i).decl.window
-  pub value : n.value ≡ measure_at i owns plan (harts_of i n.focus) n.from n.from n.to
-  pub ticks : n.ticks ≡ ticks_in owns (harts_of i n.focus) n.from n.to
+  pub value : n.value ≡ measure_at i owns plan (harts_of_focus i n.focus) n.from n.from n.to
+  pub ticks : n.ticks ≡ ticks_in owns (harts_of_focus i n.focus) n.from n.to
   pub verdict : n.state ≡ cond (holds n.value n.ticks (threshold_of (rules_of i).hypotheses n.hypothesis)) Confirmed Rejected
 
 -- One that was judged has its verdict. Nothing was seen of one that waits, and of one that is open, or ended so, less than its window.
@@ -57,18 +57,18 @@ pub record IsNode (i : Inputs) (owns : List ℕ) (n : Node) : Type 0 where
 -- ---- the instruments that test them
 
 -- It is armed: what its node's samples came to is what its plan measures from its arming to its last sample.
-pub record IsRunning (i : Inputs) (owns : List ℕ) (node : Node) (plan : Plan) (x : Shown) : Type 0 where
+pub record IsRunning (i : Inputs) (owns : List ℕ) (node : Node) (plan : Plan) (x : MetricFocusPair) : Type 0 where
   pub at : ℕ
   pub armed : x.armed ≡ Some at
   pub ordered : at ≤ x.from
   pub past : x.from ≤ length owns
-  pub value : node.value ≡ measure (program_of i.image) plan (harts_of i node.focus) at at x.from owns (start i.image i.settings.harts)
-  pub ticks : node.ticks ≡ ticks_in owns (harts_of i node.focus) at x.from
+  pub value : node.value ≡ measure (program_of i.image) plan (harts_of_focus i node.focus) at at x.from owns (start i.image i.settings.harts)
+  pub ticks : node.ticks ≡ ticks_in owns (harts_of_focus i node.focus) at x.from
   pub fresh : (node.seen == 0) ≡ true → x.from ≡ at
   pub going : (node.seen == 0) ≡ false → (node.from ≡ at) × (node.to ≡ x.from)
 
 -- it tests node n, and is being placed or armed
-pub record IsTest (i : Inputs) (owns : List ℕ) (stage : Stage) (ns : List Node) (n : ℕ) (x : Shown) : Type 0 where
+pub record IsTest (i : Inputs) (owns : List ℕ) (stage : Stage) (ns : List Node) (n : ℕ) (x : MetricFocusPair) : Type 0 where
   pub node : Node
   pub stands : slice_get ns n ≡ Some node
   pub active : node.state ≡ Active
@@ -80,10 +80,10 @@ pub record IsTest (i : Inputs) (owns : List ℕ) (stage : Stage) (ns : List Node
   pub running : stage ≡ Armed → IsRunning i owns node plan x
 
 -- if it wasn't dropped: or D holds of the node
-abbrev pub OneTest : Inputs → List ℕ → Placements → List Node → (ℕ → Type 0) → Shown → Type 0
+abbrev pub OneTest : Inputs → List ℕ → Placements → List Node → (ℕ → Type 0) → MetricFocusPair → Type 0
 OneTest i owns p ns D x = (n : ℕ) → x.node ≡ Some n → is_leaving (state_of p x.instrument.n) ≡ false → D n ⊎ IsTest i owns (state_of p x.instrument.n) ns n x
 
-abbrev pub AreTests : Inputs → List ℕ → Placements → List Node → (ℕ → Type 0) → List Shown → Type 0
+abbrev pub AreTests : Inputs → List ℕ → Placements → List Node → (ℕ → Type 0) → List MetricFocusPair → Type 0
 AreTests i owns p ns D [] = Unit {0}
 AreTests i owns p ns D (x ∷ xs) = OneTest i owns p ns D x × AreTests i owns p ns D xs
 
@@ -93,10 +93,10 @@ pub record Tag : Type 0 where
   pub node : Option ℕ
   pub number : ℕ
 
-abbrev pub tag : Shown → Tag
+abbrev pub tag : MetricFocusPair → Tag
 tag s = record { node = s.node; number = s.instrument.n }
 
-abbrev pub tags : List Shown → List Tag
+abbrev pub tags : List MetricFocusPair → List Tag
 tags ss = map tag ss
 
 -- no instrument has this number
@@ -132,10 +132,10 @@ AreTaken ns (t ∷ ts) = ((n : ℕ) → t.node ≡ Some n → IsTaken ns n) × A
 abbrev pub no_node : ℕ → Type 0
 no_node n = ⊥
 
-pub record IsSeen (i : Inputs) (owns : List ℕ) (k : Kept) : Type 0 where
+pub record IsSeen (i : Inputs) (owns : List ℕ) (k : SessionState) : Type 0 where
   pub rules : k.search.rules ≡ rules_of i
   pub time : k.time ≡ length owns
-  pub roster : IsRoster k.machine.placer
+  pub roster : AreNumbered k.machine.placer
   pub below : AreBelow k.machine.placer.count k.shown
   pub apart : AreApart (tags k.shown)
   pub alone : AreAlone (tags k.shown)

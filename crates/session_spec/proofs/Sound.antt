@@ -7,9 +7,9 @@ use Rattle.machine.specs.Events.{IsQuiet}
 use Rattle.machine.specs.Replays.{owns}
 use Rattle.machine.specs.States.{quantum_turns, settling}
 use Rattle.instrument.specs.Placements.{Placements}
-use Rattle.instrumented.specs.Instrumented.{Instrumented, taken}
+use Rattle.instrumented.specs.Instrumented.{Instrumented, after_turns}
 use Rattle.w3_search.specs.declared.node.NodeSample.{NodeSample}
-use Rattle.session_spec.specs.declared.data.Shown.{Shown}
+use Rattle.session_spec.specs.declared.data.MetricFocusPair.{MetricFocusPair}
 use Rattle.session_spec.specs.Inputs.{Inputs}
 use Rattle.session_spec.specs.States.{State}
 use Rattle.session_spec.specs.Admission.{with_admission}
@@ -20,7 +20,7 @@ use Rattle.session_spec.specs.Work.{state_admitted, state_armed, state_ended, st
 use Rattle.session_spec.specs.Ties.{IsTied}
 use Rattle.session_spec.specs.Plans.{ArePlansGood}
 use Rattle.session_spec.specs.Readings.{lasts_armed, lasts_now, lasts_with}
-use Rattle.session_spec.specs.Reads.{AreFromLast, IsSound}
+use Rattle.session_spec.specs.Reads.{AreFromLast, IsSoundState}
 use Rattle.session_spec.proofs.Admitting.{many_lasts, more_shown}
 use Rattle.session_spec.proofs.Armings.{arms_tied}
 use Rattle.session_spec.proofs.Going.{admission_moved, admission_once, hart_tied, quiet_tied}
@@ -32,21 +32,21 @@ use Rattle.session_spec.proofs.Tied.{hands_tied, sweeps_tied}
 
 -- ---- lengths
 
-recorded_many : (i : Inputs) (p : Placements) (own : List ℕ) (time : ℕ) (ss : List Shown) (rs : List (List Bin)) → length rs ≡ length ss
+recorded_many : (i : Inputs) (p : Placements) (own : List ℕ) (time : ℕ) (ss : List MetricFocusPair) (rs : List (List Bin)) → length rs ≡ length ss
     → length (recorded_with i p own time ss rs) ≡ length ss
 recorded_many i p own time [] rs e = e
 recorded_many i p own time (s ∷ ss) [] e = e
 recorded_many i p own time (s ∷ ss) (r ∷ rs) e = ap suc (recorded_many i p own time ss rs (omega arith))
 
-armed_many : (time : ℕ) (m : Instrumented) (ss : List Shown) → length (all_armed time m ss) ≡ length ss
+armed_many : (time : ℕ) (m : Instrumented) (ss : List MetricFocusPair) → length (all_armed time m ss) ≡ length ss
 armed_many time m [] = refl
 armed_many time m (s ∷ ss) = ap suc (armed_many time (machine_armed m s) ss)
 
 -- ---- steps
 
-module _ (i : Inputs) (s : State) (lasts : List ℕ) (k : IsSound i s lasts) where
+module _ (i : Inputs) (s : State) (lasts : List ℕ) (k : IsSoundState i s lasts) where
   -- an admission
-  pub admitted_sound : ArePlansGood i → IsSound i (state_admitted i s) (lasts_with (with_admission i s.kept).shown lasts)
+  pub admitted_sound : ArePlansGood i → IsSoundState i (state_admitted i s) (lasts_with (with_admission i s.kept).shown lasts)
   admitted_sound good =
       let d = with_admission i s.kept in
       let a = admission_moved i good s.owns lasts s.kept k.tied in
@@ -66,7 +66,7 @@ module _ (i : Inputs) (s : State) (lasts : List ℕ) (k : IsSound i s lasts) whe
       }
 
   -- a hart's turns
-  pub turned_sound : (h n : ℕ) → IsSound i (state_turned h n s) lasts
+  pub turned_sound : (h n : ℕ) → IsSoundState i (state_turned h n s) lasts
   unfolding with_hart
   turned_sound h n =
       let turns = quantum_turns n h s.kept.machine.core in
@@ -78,13 +78,13 @@ module _ (i : Inputs) (s : State) (lasts : List ℕ) (k : IsSound i s lasts) whe
         tied = tied;
         time = omega arith;
         many = k.many;
-        ticks = ticks_tied i (taken turns s.kept.machine) (s.owns ++ owns turns s.kept.machine.core) s.kept.shown lasts tied;
+        ticks = ticks_tied i (after_turns turns s.kept.machine) (s.owns ++ owns turns s.kept.machine.core) s.kept.shown lasts tied;
         last = omega arith;
         from = subst (λ p. AreFromLast p s.kept.last s.kept.shown) (sym (turns_same turns s.kept.machine)) k.from;
       }
 
   -- entries of the agenda
-  pub handed_sound : IsSound i (state_handed s) lasts
+  pub handed_sound : IsSoundState i (state_handed s) lasts
   unfolding with_entries
   handed_sound =
       let tied = hands_tied 8 i s.kept.machine s.owns s.kept.shown lasts k.tied in
@@ -98,7 +98,7 @@ module _ (i : Inputs) (s : State) (lasts : List ℕ) (k : IsSound i s lasts) whe
       }
 
   -- settling
-  pub quiet_sound : IsSound i (state_quiet s) lasts
+  pub quiet_sound : IsSoundState i (state_quiet s) lasts
   unfolding with_quiet
   quiet_sound =
       let turns = settling s.kept.machine.core in
@@ -110,7 +110,7 @@ module _ (i : Inputs) (s : State) (lasts : List ℕ) (k : IsSound i s lasts) whe
         tied = tied;
         time = omega arith;
         many = k.many;
-        ticks = ticks_tied i (taken turns s.kept.machine) (s.owns ++ owns turns s.kept.machine.core) s.kept.shown lasts tied;
+        ticks = ticks_tied i (after_turns turns s.kept.machine) (s.owns ++ owns turns s.kept.machine.core) s.kept.shown lasts tied;
         last = omega arith;
         from = subst (λ p. AreFromLast p s.kept.last s.kept.shown) (sym (turns_same turns s.kept.machine)) k.from;
       }
@@ -121,7 +121,7 @@ module _ (i : Inputs) (s : State) (lasts : List ℕ) (k : IsSound i s lasts) whe
 
   module _ (quiet : IsQuiet s.kept.machine.core) where
     -- samples
-    pub sampled_sound : IsSound i (state_sampled i s) (lasts_now i s.kept.machine s.kept.shown lasts)
+    pub sampled_sound : IsSoundState i (state_sampled i s) (lasts_now i s.kept.machine s.kept.shown lasts)
     unfolding with_samples
     sampled_sound =
         let tied = subst (λ (time : ℕ). IsTied i s.kept.machine s.owns (map (sampled_to s.kept.machine.placer time) s.kept.shown) (lasts_now i s.kept.machine s.kept.shown lasts)) (sym k.time)
@@ -136,7 +136,7 @@ module _ (i : Inputs) (s : State) (lasts : List ℕ) (k : IsSound i s lasts) whe
         }
 
     -- Frees, and armings, where all were sampled just now
-    pub armed_sound : s.kept.last ≡ s.kept.time → IsSound i (state_armed s) (lasts_armed i (with_frees s.kept).machine (with_frees s.kept).shown lasts)
+    pub armed_sound : s.kept.last ≡ s.kept.time → IsSoundState i (state_armed s) (lasts_armed i (with_frees s.kept).machine (with_frees s.kept).shown lasts)
     unfolding with_frees with_arms
     armed_sound now =
         let n = length s.kept.machine.placer.book.agenda in
@@ -156,7 +156,7 @@ module _ (i : Inputs) (s : State) (lasts : List ℕ) (k : IsSound i s lasts) whe
         }
 
   -- what the samples tell the search
-  pub judged_sound : (samples : List NodeSample) → IsSound i (state_judged samples s) lasts
+  pub judged_sound : (samples : List NodeSample) → IsSoundState i (state_judged samples s) lasts
   judged_sound samples =
       let d = with_verdicts samples s.kept in
       let j = verdicts_judged i s.owns lasts samples s.kept k.tied in
@@ -165,16 +165,16 @@ module _ (i : Inputs) (s : State) (lasts : List ℕ) (k : IsSound i s lasts) whe
       record {
         tied = tied;
         time = once.time ∙ k.time;
-        many = k.many ∙ ap (λ (ss : List Shown). length ss) (sym j.shown);
+        many = k.many ∙ ap (λ (ss : List MetricFocusPair). length ss) (sym j.shown);
         ticks = ticks_tied i d.machine s.owns d.shown lasts tied;
         last = let low = k.last in let last = once.last in let time = once.time in omega arith;
         from = λ x h e. let was = j.moved.back x h e in k.from x was.0 was.1 ∙ sym once.last;
       }
 
-  pub next_sound : (width : ℕ) → IsSound i (state_next width s) lasts
+  pub next_sound : (width : ℕ) → IsSoundState i (state_next width s) lasts
   unfolding with_next
   next_sound width = record { tied = k.tied; time = k.time; many = k.many; ticks = k.ticks; last = k.last; from = k.from }
 
-  pub ended_sound : IsSound i (state_ended s) lasts
+  pub ended_sound : IsSoundState i (state_ended s) lasts
   unfolding with_search_end
   ended_sound = record { tied = k.tied; time = k.time; many = k.many; ticks = k.ticks; last = k.last; from = k.from }

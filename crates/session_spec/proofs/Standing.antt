@@ -7,23 +7,23 @@ use Rattle.machine.specs.Cores.{In}
 use Rattle.machine.proofs.Lists.{find_finds, find_gives, in_filter, in_map, in_snoc}
 use Rattle.instrument.specs.Books.{stays}
 use Rattle.instrument.specs.Numbers.{Call, Admit, Arm, Drop, Next, NextFree, PutBack, Freed, called, IsNumbered}
-use Rattle.instrument.specs.Placements.{Placements, admission, armed, is_here, is_leaving, is_site_of, or_same, state_in, state_of, with_state, without_sites}
+use Rattle.instrument.specs.Placements.{Placements, admission, with_armed, is_here, is_leaving, is_site_of, or_same, state_in, state_of, with_state, without_sites}
 use Rattle.instrument.specs.declared.instrument.Instrument.{Instrument}
 use Rattle.instrument.specs.declared.number.Refused.{Refused}
 use Rattle.instrument.specs.declared.number.State.TheVariants.{Placing, Armed, Leaving, Gone}
 use Rattle.instrument.specs.declared.room.Room.{Room}
 use Rattle.instrument.proofs.Folds.{find_append, find_first, find_map, find_none}
 use Rattle.instrument.proofs.Numbers as numbers
-use Rattle.session_spec.specs.Rosters.{IsRoster}
+use Rattle.session_spec.specs.Rosters.{AreNumbered}
 
 -- Those that are gone stay gone, and one that wasn't dropped is what it was.
 pub record Since (p q : Placements) : Type 0 where
-  pub roster : IsRoster q
+  pub roster : AreNumbered q
   pub count : p.count ≤ q.count
   pub gone : (n : ℕ) → n < p.count → state_of p n ≡ Gone → state_of q n ≡ Gone
   pub live : (n : ℕ) → n < p.count → is_leaving (state_of q n) ≡ false → state_of q n ≡ state_of p n
 
-pub since_none : (p : Placements) → IsRoster p → Since p p
+pub since_none : (p : Placements) → AreNumbered p → Since p p
 since_none p r = record { roster = r; count = omega arith; gone = λ n l e. e; live = λ n l e. refl }
 
 pub since_on : (p q r : Placements) → Since p q → Since q r → Since p r
@@ -86,7 +86,7 @@ none_at p n k e = by (at_no n p.instruments) refl e
 -- ---- some of the instruments, maybe in other states
 
 -- Each of the second was in the first, as it is where it isn't leaving.
-module _ (p q : Placements) (r : IsRoster p) (numbered : IsNumbered q) (count : q.count ≡ p.count)
+module _ (p q : Placements) (r : AreNumbered p) (numbered : IsNumbered q) (count : q.count ≡ p.count)
     (from : (y : Instrument) → In y q.instruments → (x : Instrument) × In x p.instruments × (x.no ≡ y.no) × (is_leaving y.state ≡ false → x ≡ y))
     (single : (x y : Instrument) → In x q.instruments → In y q.instruments → x.no ≡ y.no → x ≡ y) where
   gone_still : (n : ℕ) → state_of p n ≡ Gone → (o : Option Instrument) → at_no n q.instruments ≡ o → state_in o ≡ Gone
@@ -126,7 +126,7 @@ less : (m n : ℕ) → m < n → m ≡ n → ⊥
 less m n l e = omega arith
 
 -- one instrument more
-more_single : (p : Placements) (plan : Plan) (q : Placements) (t : numbers.Taken p plan q) → IsRoster p → (x y : Instrument) → In x q.instruments → In y q.instruments → x.no ≡ y.no → x ≡ y
+more_single : (p : Placements) (plan : Plan) (q : Placements) (t : numbers.Taken p plan q) → AreNumbered p → (x y : Instrument) → In x q.instruments → In y q.instruments → x.no ≡ y.no → x ≡ y
 more_single p plan q t r x y h k e =
     let other = λ (z u : Instrument) (a : In z p.instruments) (b : u ≡ t.i) (f : z.no ≡ u.no).
     let l = (r.numbered).below z a in let n = ap (λ (v : Instrument). v.no) b in let w = t.no in let c : z.no ≡ p.count = f ∙ (n ∙ w) in less z.no p.count l c in
@@ -136,7 +136,7 @@ more_single p plan q t r x y h k e =
     (λ (a : x ≡ t.i). ⊎_elim (λ (b : In y p.instruments). absurd (other y x b a (sym e))) (λ (b : y ≡ t.i). a ∙ sym b) second)
     (in_snoc p.instruments t.i x (subst (In x) t.instruments h))
 
-since_admit : (p : Placements) (plan : Plan) (cost : Option ℕ) (a : Result Placements Refused) → admission p plan cost ≡ a → IsRoster p → IsNumbered (or_same p a) → Since p (or_same p a)
+since_admit : (p : Placements) (plan : Plan) (cost : Option ℕ) (a : Result Placements Refused) → admission p plan cost ≡ a → AreNumbered p → IsNumbered (or_same p a) → Since p (or_same p a)
 since_admit p plan cost (Err x) e r k = since_none p r
 since_admit p plan cost (Ok q) e r k =
     let t = (numbers.admits p plan cost q e).0 in
@@ -153,7 +153,7 @@ since_admit p plan cost (Ok q) e r k =
         ∙ ap state_in (find_append (λ (x : Instrument). x.no == n) p.instruments (t.i ∷ []) f ∙ cond-false (t.i.no == n) (Some t.i) None (ne_eqb _ _ w))
     by t n w (Some x) f = ap (λ xs. state_in (at_no n xs)) t.instruments ∙ ap state_in (find_first (λ (x : Instrument). x.no == n) p.instruments (t.i ∷ []) x f)
 
-module _ (m : ℕ) (p : Placements) (r : IsRoster p) where
+module _ (m : ℕ) (p : Placements) (r : AreNumbered p) where
   abbrev rooms : List Room
   rooms = (without_sites (filter (is_site_of m) p.book.rooms) p.book).rooms
 
@@ -176,7 +176,7 @@ module _ (m : ℕ) (p : Placements) (r : IsRoster p) where
       let no : (a.0).no ≡ (b.0).no = sym (ap (λ (u : Instrument). u.no) a.2) ∙ (e ∙ ap (λ (u : Instrument). u.no) b.2) in
       a.2 ∙ (ap (with_state m Leaving) (r.single a.0 b.0 a.1 b.1 no) ∙ sym b.2)
 
-module _ (point : ℕ) (p : Placements) (r : IsRoster p) where
+module _ (point : ℕ) (p : Placements) (r : AreNumbered p) where
   abbrev left : List Instrument
   left = filter (is_here (filter (stays point) p.book.rooms)) p.instruments
 
@@ -188,7 +188,7 @@ module _ (point : ℕ) (p : Placements) (r : IsRoster p) where
       let here = is_here (filter (stays point) p.book.rooms) in
       r.single x y (in_filter here p.instruments x h).0 (in_filter here p.instruments y k).0 e
 
-same_since : (p q : Placements) → IsRoster p → IsNumbered q → q.instruments ≡ p.instruments → q.count ≡ p.count → Since p q
+same_since : (p q : Placements) → AreNumbered p → IsNumbered q → q.instruments ≡ p.instruments → q.count ≡ p.count → Since p q
 same_since p q r k is c = record {
   roster = record { numbered = k; single = λ x y h j e. r.single x y (subst (In x) is h) (subst (In y) is j) e };
   count = omega (arith, c);
@@ -196,7 +196,7 @@ same_since p q r k is c = record {
   live = λ n l g. ap (λ xs. state_in (at_no n xs)) is;
 }
 
-pub since_call : (k : Call) → IsNoArm k → (p : Placements) → IsRoster p → Since p (called k p)
+pub since_call : (k : Call) → IsNoArm k → (p : Placements) → AreNumbered p → Since p (called k p)
 since_call (Arm n) o p r = absurd o
 since_call (Admit plan cost) o p r = since_admit p plan cost (admission p plan cost) refl r ((numbers.states_stay).numbered (Admit plan cost) p r.numbered)
 since_call (Drop m) o p r = since_some p (called (Drop m) p) r ((numbers.states_stay).numbered (Drop m) p r.numbered) refl (drop_from m p r) (drop_single m p r)
@@ -223,7 +223,7 @@ dropped_leaves m p = by (at_no m (called (Drop m) p).instruments) refl
 
 -- the others are what they were, and one that was being placed is armed
 pub record IsArming (m : ℕ) (p q : Placements) : Type 0 where
-  pub roster : IsRoster q
+  pub roster : AreNumbered q
   pub count : q.count ≡ p.count
   pub other : (n : ℕ) → (n ≡ m → ⊥) → state_of q n ≡ state_of p n
   pub itself : state_of p m ≡ Placing → state_of q m ≡ Armed
@@ -238,7 +238,7 @@ other_armed n m (x ∷ xs) a = by (x.no == n) refl (other_armed n m xs a)
     by true e ih = cond-false (x.no == m) Armed x.state (ne_eqb _ _ (λ z. a (sym (eqb-true x.no n e) ∙ z)))
     by false e ih = ih
 
-pub arming : (m : ℕ) (p : Placements) → IsRoster p → IsArming m p (armed m p)
+pub arming : (m : ℕ) (p : Placements) → AreNumbered p → IsArming m p (with_armed m p)
 arming m p r = record {
   roster = record {
     numbered = (numbers.states_stay).numbered (Arm m) p r.numbered;

@@ -6,21 +6,21 @@ use Rattle.machine.specs.Cores.{In}
 use Rattle.machine.proofs.Lists.{map_snoc}
 use Rattle.w3_search.specs.declared.node.Node.{Node}
 use Rattle.w3_search.specs.Nodes.{is_waiting}
-use Rattle.session_spec.specs.declared.data.Shown.{Shown}
+use Rattle.session_spec.specs.declared.data.MetricFocusPair.{MetricFocusPair}
 use Rattle.session_spec.specs.Rosters.{AreBelow}
 use Rattle.session_spec.proofs.Likes.{AreLike}
 use Rattle.session_spec.proofs.Grown.{Grows, some_same}
 use Rattle.session_spec.proofs.Seen.{AreAlone, AreApart, AreTaken, NotBy, NotOf, Tag, tag, tags}
 
-pub tags_like : (ss ts : List Shown) → AreLike ss ts → tags ts ≡ tags ss
+pub tags_like : (ss ts : List MetricFocusPair) → AreLike ss ts → tags ts ≡ tags ss
 tags_like [] [] a = refl
 tags_like [] (t ∷ ts) a = absurd a
 tags_like (s ∷ ss) [] a = absurd a
-tags_like (s ∷ ss) (t ∷ ts) a = ap (λ (x : Shown). tag x ∷ tags ts) a.0 ∙ ap (λ (l : List Tag). tag s ∷ l) (tags_like ss ts a.1)
+tags_like (s ∷ ss) (t ∷ ts) a = ap (λ (x : MetricFocusPair). tag x ∷ tags ts) a.0 ∙ ap (λ (l : List Tag). tag s ∷ l) (tags_like ss ts a.1)
 
 -- ---- one instrument more
 
-not_by_below : (c : ℕ) (ss : List Shown) → AreBelow c ss → NotBy c (tags ss)
+not_by_below : (c : ℕ) (ss : List MetricFocusPair) → AreBelow c ss → NotBy c (tags ss)
 not_by_below c [] b = tt
 not_by_below c (s ∷ ss) b = let l = b.0 in ((λ e. omega (arith, l, e)), not_by_below c ss b.1)
 
@@ -44,14 +44,14 @@ taken_more : (ns : List Node) (ts : List Tag) (t : Tag) → AreTaken ns ts → A
 taken_more ns [] t a b = b
 taken_more ns (x ∷ ts) t a b = (a.0, taken_more ns ts t a.1 b)
 
-pub apart_push : (c : ℕ) (ss : List Shown) (s : Shown) → s.instrument.n ≡ c → AreBelow c ss → AreApart (tags ss) → AreApart (tags (ss ++ s ∷ []))
+pub apart_push : (c : ℕ) (ss : List MetricFocusPair) (s : MetricFocusPair) → s.instrument.n ≡ c → AreBelow c ss → AreApart (tags ss) → AreApart (tags (ss ++ s ∷ []))
 apart_push c ss s e b a =
     subst AreApart (sym (map_snoc tag ss s)) (apart_more (tags ss) (tag s) a (subst (λ m. NotBy m (tags ss)) (sym e) (not_by_below c ss b)))
 
-pub alone_push : (ss : List Shown) (s : Shown) → AreAlone (tags ss) → ((n : ℕ) → s.node ≡ Some n → NotOf n (tags ss)) → AreAlone (tags (ss ++ s ∷ []))
+pub alone_push : (ss : List MetricFocusPair) (s : MetricFocusPair) → AreAlone (tags ss) → ((n : ℕ) → s.node ≡ Some n → NotOf n (tags ss)) → AreAlone (tags (ss ++ s ∷ []))
 alone_push ss s a f = subst AreAlone (sym (map_snoc tag ss s)) (alone_more (tags ss) (tag s) a f)
 
-pub taken_push : (ns : List Node) (ss : List Shown) (s : Shown) → AreTaken ns (tags ss) → AreTaken ns (tag s ∷ []) → AreTaken ns (tags (ss ++ s ∷ []))
+pub taken_push : (ns : List Node) (ss : List MetricFocusPair) (s : MetricFocusPair) → AreTaken ns (tags ss) → AreTaken ns (tag s ∷ []) → AreTaken ns (tags (ss ++ s ∷ []))
 taken_push ns ss s a b = subst (AreTaken ns) (sym (map_snoc tag ss s)) (taken_more ns (tags ss) (tag s) a b)
 
 -- ---- nodes
@@ -69,14 +69,14 @@ taken_grown P C ns ms (t ∷ ts) g a =
 
 -- ---- one node has one instrument
 
-not_of_in : (n : ℕ) (ss : List Shown) (s : Shown) → NotOf n (tags ss) → In s ss → s.node ≡ Some n → ⊥
+not_of_in : (n : ℕ) (ss : List MetricFocusPair) (s : MetricFocusPair) → NotOf n (tags ss) → In s ss → s.node ≡ Some n → ⊥
 not_of_in n [] s o h e = h
-not_of_in n (x ∷ ss) s o (inl h) e = o.0 (ap (λ (y : Shown). y.node) (sym h) ∙ e)
+not_of_in n (x ∷ ss) s o (inl h) e = o.0 (ap (λ (y : MetricFocusPair). y.node) (sym h) ∙ e)
 not_of_in n (x ∷ ss) s o (inr h) e = not_of_in n ss s o.1 h e
 
-pub same_tester : (n : ℕ) (ss : List Shown) (s t : Shown) → AreAlone (tags ss) → In s ss → In t ss → s.node ≡ Some n → t.node ≡ Some n → s.instrument.n ≡ t.instrument.n
+pub same_tester : (n : ℕ) (ss : List MetricFocusPair) (s t : MetricFocusPair) → AreAlone (tags ss) → In s ss → In t ss → s.node ≡ Some n → t.node ≡ Some n → s.instrument.n ≡ t.instrument.n
 same_tester n [] s t a h k e f = absurd h
-same_tester n (x ∷ ss) s t a (inl h) (inl k) e f = ap (λ (y : Shown). y.instrument.n) (h ∙ sym k)
-same_tester n (x ∷ ss) s t a (inl h) (inr k) e f = absurd (not_of_in n ss t (a.0 n (ap (λ (y : Shown). y.node) (sym h) ∙ e)) k f)
-same_tester n (x ∷ ss) s t a (inr h) (inl k) e f = absurd (not_of_in n ss s (a.0 n (ap (λ (y : Shown). y.node) (sym k) ∙ f)) h e)
+same_tester n (x ∷ ss) s t a (inl h) (inl k) e f = ap (λ (y : MetricFocusPair). y.instrument.n) (h ∙ sym k)
+same_tester n (x ∷ ss) s t a (inl h) (inr k) e f = absurd (not_of_in n ss t (a.0 n (ap (λ (y : MetricFocusPair). y.node) (sym h) ∙ e)) k f)
+same_tester n (x ∷ ss) s t a (inr h) (inl k) e f = absurd (not_of_in n ss s (a.0 n (ap (λ (y : MetricFocusPair). y.node) (sym k) ∙ f)) h e)
 same_tester n (x ∷ ss) s t a (inr h) (inr k) e f = same_tester n ss s t a.1 h k e f

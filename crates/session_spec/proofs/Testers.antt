@@ -12,14 +12,14 @@ use Rattle.w3_search.specs.declared.node.Node.{Node}
 use Rattle.w3_search.specs.declared.node.NodeSample.{NodeSample}
 use Rattle.w3_search.specs.declared.node.NodeState.TheVariants.{Active}
 use Rattle.w3_search.specs.Nodes.{sampled}
-use Rattle.w3_search.specs.Steps.{judged, may_take, with_sample, with_samples}
-use Rattle.session_spec.specs.declared.data.Shown.{Shown}
+use Rattle.w3_search.specs.Steps.{with_verdict, may_take, with_sample, with_samples}
+use Rattle.session_spec.specs.declared.data.MetricFocusPair.{MetricFocusPair}
 use Rattle.session_spec.specs.Inputs.{Inputs}
 use Rattle.session_spec.specs.Searches.{metric_of}
 use Rattle.session_spec.specs.Due.{all_armed, armed_at, is_armed, is_ready, machine_armed, recorded_with, sample_of, sampled_to}
 use Rattle.session_spec.specs.Verdicts.{node_sample, node_samples, node_samples_by}
 use Rattle.session_spec.specs.Work.{with_room}
-use Rattle.session_spec.specs.Rosters.{IsRoster}
+use Rattle.session_spec.specs.Rosters.{AreNumbered}
 use Rattle.session_spec.proofs.Arming.{ready_placing}
 use Rattle.session_spec.proofs.Grown.{changed_here, changed_there, some_same}
 use Rattle.session_spec.proofs.Seen.{AreAlone, AreApart, AreTests, IsRunning, IsTest, NotBy, NotOf, OneTest, is_judged, no_node, tags}
@@ -50,61 +50,61 @@ row_append [] n k = row_blank n k
 row_append (r ∷ rs) n zero = refl
 row_append (r ∷ rs) n (suc k) = row_append rs n k
 
-pub row_room : (xs : List Shown) (rs : List (List Bin)) (k : ℕ) → row (with_room xs rs) k ≡ row rs k
+pub row_room : (xs : List MetricFocusPair) (rs : List (List Bin)) (k : ℕ) → row (with_room xs rs) k ≡ row rs k
 row_room xs rs k = row_append rs (length xs - length rs) k
 
-pub row_at : (xs : List Shown) (rs : List (List Bin)) (k : ℕ) (x : Shown) → length rs ≡ length xs → slice_get xs k ≡ Some x → slice_get rs k ≡ Some (row rs k)
+pub row_at : (xs : List MetricFocusPair) (rs : List (List Bin)) (k : ℕ) (x : MetricFocusPair) → length rs ≡ length xs → slice_get xs k ≡ Some x → slice_get rs k ≡ Some (row rs k)
 row_at [] rs k x m e = absurd cc
 row_at (y ∷ xs) [] k x m e = absurd (omega arith)
 row_at (y ∷ xs) (r ∷ rs) zero x m e = refl
 row_at (y ∷ xs) (r ∷ rs) (suc k) x m e = row_at xs rs k x (omega arith) e
 
-row_sampled : (i : Inputs) (p : Placements) (owns : List ℕ) (t : ℕ) (xs : List Shown) (rs : List (List Bin)) (k : ℕ) (x : Shown) → length rs ≡ length xs → slice_get xs k ≡ Some x
+row_sampled : (i : Inputs) (p : Placements) (owns : List ℕ) (t : ℕ) (xs : List MetricFocusPair) (rs : List (List Bin)) (k : ℕ) (x : MetricFocusPair) → length rs ≡ length xs → slice_get xs k ≡ Some x
     → row (recorded_with i p owns t xs rs) k ≡ cond (is_armed p x) (row rs k ++ sample_of i owns t x ∷ []) (row rs k)
 row_sampled i p owns t [] rs k x m e = absurd cc
 row_sampled i p owns t (y ∷ xs) [] k x m e = absurd (omega arith)
 row_sampled i p owns t (y ∷ xs) (r ∷ rs) zero x m e =
     let s : y ≡ x = cc in
-    ap (λ (z : Shown). cond (is_armed p z) (r ++ sample_of i owns t z ∷ []) r) s
+    ap (λ (z : MetricFocusPair). cond (is_armed p z) (r ++ sample_of i owns t z ∷ []) r) s
 row_sampled i p owns t (y ∷ xs) (r ∷ rs) (suc k) x m e = row_sampled i p owns t xs rs k x (omega arith) e
 
 -- ---- shown instruments by their places
 
-pub shown_left : (xs ys : List Shown) (k : ℕ) (x : Shown) → slice_get xs k ≡ Some x → slice_get (xs ++ ys) k ≡ Some x
+pub shown_left : (xs ys : List MetricFocusPair) (k : ℕ) (x : MetricFocusPair) → slice_get xs k ≡ Some x → slice_get (xs ++ ys) k ≡ Some x
 shown_left [] ys k x e = absurd cc
 shown_left (y ∷ xs) ys zero x e = e
 shown_left (y ∷ xs) ys (suc k) x e = shown_left xs ys k x e
 
-pub shown_last : (xs : List Shown) (x : Shown) → slice_get (xs ++ x ∷ []) (length xs) ≡ Some x
+pub shown_last : (xs : List MetricFocusPair) (x : MetricFocusPair) → slice_get (xs ++ x ∷ []) (length xs) ≡ Some x
 shown_last [] x = refl
 shown_last (y ∷ xs) x = shown_last xs x
 
-pub sampled_at : (p : Placements) (t : ℕ) (xs : List Shown) (k : ℕ) (x : Shown) → slice_get xs k ≡ Some x → slice_get (map (sampled_to p t) xs) k ≡ Some (sampled_to p t x)
+pub sampled_at : (p : Placements) (t : ℕ) (xs : List MetricFocusPair) (k : ℕ) (x : MetricFocusPair) → slice_get xs k ≡ Some x → slice_get (map (sampled_to p t) xs) k ≡ Some (sampled_to p t x)
 sampled_at p t [] k x e = absurd cc
-sampled_at p t (y ∷ xs) zero x e = ap (λ (z : Shown). Some (sampled_to p t z)) (some_same y x e)
+sampled_at p t (y ∷ xs) zero x e = ap (λ (z : MetricFocusPair). Some (sampled_to p t z)) (some_same y x e)
 sampled_at p t (y ∷ xs) (suc k) x e = sampled_at p t xs k x e
 
-test_at : (i : Inputs) (owns : List ℕ) (p : Placements) (ns : List Node) (D : ℕ → Type 0) (xs : List Shown) (k : ℕ) (x : Shown) → AreTests i owns p ns D xs → slice_get xs k ≡ Some x → OneTest i owns p ns D x
+test_at : (i : Inputs) (owns : List ℕ) (p : Placements) (ns : List Node) (D : ℕ → Type 0) (xs : List MetricFocusPair) (k : ℕ) (x : MetricFocusPair) → AreTests i owns p ns D xs → slice_get xs k ≡ Some x → OneTest i owns p ns D x
 test_at i owns p ns D [] k x h e = absurd cc
 test_at i owns p ns D (y ∷ xs) zero x h e = subst (OneTest i owns p ns D) (some_same y x e) h.0
 test_at i owns p ns D (y ∷ xs) (suc k) x h e = test_at i owns p ns D xs k x h.1 e
 
-pub pair_at : (i : Inputs) (owns : List ℕ) (p : Placements) (xs : List Shown) (rs : List (List Bin)) (k : ℕ) (x : Shown) → ArePairs i owns p xs rs → slice_get xs k ≡ Some x
+pub pair_at : (i : Inputs) (owns : List ℕ) (p : Placements) (xs : List MetricFocusPair) (rs : List (List Bin)) (k : ℕ) (x : MetricFocusPair) → ArePairs i owns p xs rs → slice_get xs k ≡ Some x
     → IsPair i owns (state_of p x.instrument.n) x (row rs k)
 pair_at i owns p [] rs k x h e = absurd cc
-pair_at i owns p (y ∷ xs) [] zero x h e = subst (λ (z : Shown). IsPair i owns (state_of p z.instrument.n) z []) (some_same y x e) h.0
+pair_at i owns p (y ∷ xs) [] zero x h e = subst (λ (z : MetricFocusPair). IsPair i owns (state_of p z.instrument.n) z []) (some_same y x e) h.0
 pair_at i owns p (y ∷ xs) [] (suc k) x h e = pair_at i owns p xs [] k x h.1 e
-pair_at i owns p (y ∷ xs) (r ∷ rs) zero x h e = subst (λ (z : Shown). IsPair i owns (state_of p z.instrument.n) z r) (some_same y x e) h.0
+pair_at i owns p (y ∷ xs) (r ∷ rs) zero x h e = subst (λ (z : MetricFocusPair). IsPair i owns (state_of p z.instrument.n) z r) (some_same y x e) h.0
 pair_at i owns p (y ∷ xs) (r ∷ rs) (suc k) x h e = pair_at i owns p xs rs k x h.1 e
 
-not_of_at : (n : ℕ) (xs : List Shown) (k : ℕ) (x : Shown) → NotOf n (tags xs) → slice_get xs k ≡ Some x → x.node ≡ Some n → ⊥
+not_of_at : (n : ℕ) (xs : List MetricFocusPair) (k : ℕ) (x : MetricFocusPair) → NotOf n (tags xs) → slice_get xs k ≡ Some x → x.node ≡ Some n → ⊥
 not_of_at n [] k x o e f = cc
-not_of_at n (y ∷ xs) zero x o e f = o.0 (ap (λ (z : Shown). z.node) (some_same y x e) ∙ f)
+not_of_at n (y ∷ xs) zero x o e f = o.0 (ap (λ (z : MetricFocusPair). z.node) (some_same y x e) ∙ f)
 not_of_at n (y ∷ xs) (suc k) x o e f = not_of_at n xs k x o.1 e f
 
-pub not_by_at : (n : ℕ) (xs : List Shown) (k : ℕ) (x : Shown) → NotBy n (tags xs) → slice_get xs k ≡ Some x → x.instrument.n ≡ n → ⊥
+pub not_by_at : (n : ℕ) (xs : List MetricFocusPair) (k : ℕ) (x : MetricFocusPair) → NotBy n (tags xs) → slice_get xs k ≡ Some x → x.instrument.n ≡ n → ⊥
 not_by_at n [] k x o e f = cc
-not_by_at n (y ∷ xs) zero x o e f = o.0 (ap (λ (z : Shown). z.instrument.n) (some_same y x e) ∙ f)
+not_by_at n (y ∷ xs) zero x o e f = o.0 (ap (λ (z : MetricFocusPair). z.instrument.n) (some_same y x e) ∙ f)
 not_by_at n (y ∷ xs) (suc k) x o e f = not_by_at n xs k x o.1 e f
 
 -- ---- the samples of nodes
@@ -113,11 +113,11 @@ module _ (i : Inputs) (p : Placements) (owns : List ℕ) (t : ℕ) (hs : List Hy
   abbrev with : List NodeSample → List Node → List Node
   with ss ns = with_samples hs w t ss ns
 
-  abbrev samples : List Shown → List NodeSample
+  abbrev samples : List MetricFocusPair → List NodeSample
   samples xs = node_samples i p owns t xs
 
   -- of no instrument of the node
-  untouched_by : (o : Option ℕ) (z : Shown) (rest : List NodeSample) (n : ℕ) (ns : List Node) → (o ≡ Some n → ⊥) → (ms : List Node) × (slice_get ms n ≡ slice_get ns n)
+  untouched_by : (o : Option ℕ) (z : MetricFocusPair) (rest : List NodeSample) (n : ℕ) (ns : List Node) → (o ≡ Some n → ⊥) → (ms : List Node) × (slice_get ms n ≡ slice_get ns n)
       × (with (node_samples_by o i p owns t z ++ rest) ns ≡ with rest ms)
   untouched_by None z rest n ns a = (ns, refl, refl)
   untouched_by (Some m) z rest n ns a = by (is_armed p z)
@@ -128,20 +128,20 @@ module _ (i : Inputs) (p : Placements) (owns : List ℕ) (t : ℕ) (hs : List Hy
           (with_sample hs w t s ns, changed_there (sample_on hs w t s) ns m n (λ q. a (ap (λ (v : ℕ). Some v) (sym q))), refl)
       by false = (ns, refl, refl)
 
-  untouched : (xs : List Shown) (n : ℕ) (ns : List Node) → NotOf n (tags xs) → slice_get (with (samples xs) ns) n ≡ slice_get ns n
+  untouched : (xs : List MetricFocusPair) (n : ℕ) (ns : List Node) → NotOf n (tags xs) → slice_get (with (samples xs) ns) n ≡ slice_get ns n
   untouched [] n ns a = refl
   untouched (z ∷ xs) n ns a =
       let u = untouched_by z.node z (samples xs) n ns a.0 in
       ap (λ (ms : List Node). slice_get ms n) u.2 ∙ (untouched xs n u.0 a.1 ∙ u.1)
 
   -- of its own
-  pub touched : (xs : List Shown) (k : ℕ) (x : Shown) (n : ℕ) (ns : List Node) (y : Node) → slice_get xs k ≡ Some x → x.node ≡ Some n → AreAlone (tags xs) → slice_get ns n ≡ Some y
+  pub touched : (xs : List MetricFocusPair) (k : ℕ) (x : MetricFocusPair) (n : ℕ) (ns : List Node) (y : Node) → slice_get xs k ≡ Some x → x.node ≡ Some n → AreAlone (tags xs) → slice_get ns n ≡ Some y
       → slice_get (with (samples xs) ns) n ≡ Some (cond (is_armed p x) (sample_on hs w t (node_sample i owns t n x) y) y)
   touched [] k x n ns y e f a g = absurd cc
   touched (z ∷ xs) zero x n ns y e f a g =
       let same = some_same z x e in
-      let is : z.node ≡ Some n = ap (λ (v : Shown). v.node) same ∙ f in
-      subst (λ (v : Shown). slice_get (with (samples (z ∷ xs)) ns) n ≡ Some (cond (is_armed p v) (sample_on hs w t (node_sample i owns t n v) y) y)) same
+      let is : z.node ≡ Some n = ap (λ (v : MetricFocusPair). v.node) same ∙ f in
+      subst (λ (v : MetricFocusPair). slice_get (with (samples (z ∷ xs)) ns) n ≡ Some (cond (is_armed p v) (sample_on hs w t (node_sample i owns t n v) y) y)) same
       (ap (λ (o : Option ℕ). slice_get (with (node_samples_by o i p owns t z ++ samples xs) ns) n) is ∙ by (is_armed p z) (a.0 n is))
     where
       by : (b : Bool) → NotOf n (tags xs) → slice_get (with (cond b (node_sample i owns t n z ∷ []) [] ++ samples xs) ns) n ≡ Some (cond b (sample_on hs w t (node_sample i owns t n z) y) y)
@@ -157,9 +157,9 @@ module _ (i : Inputs) (p : Placements) (owns : List ℕ) (t : ℕ) (hs : List Hy
 
 -- The instrument that tests node k, or did: as many samples of it were recorded as the node has seen. Where the node was judged, it
 -- was armed where the window begins, and sampled last where that ends.
-pub record HasTester (i : Inputs) (xs : List Shown) (rs : List (List Bin)) (k : ℕ) (n : Node) : Type 0 where
+pub record HasTester (i : Inputs) (xs : List MetricFocusPair) (rs : List (List Bin)) (k : ℕ) (n : Node) : Type 0 where
   pub place : ℕ
-  pub x : Shown
+  pub x : MetricFocusPair
   pub listed : slice_get xs place ≡ Some x
   pub node : x.node ≡ Some k
   pub metric : x.metric ≡ metric_of i n
@@ -168,18 +168,18 @@ pub record HasTester (i : Inputs) (xs : List Shown) (rs : List (List Bin)) (k : 
   pub judged : is_judged n.state ≡ true → (x.armed ≡ Some n.from) × (x.from ≡ n.to)
 
 -- each node that is or was under test has one
-abbrev pub AreTraced : Inputs → List Shown → List (List Bin) → List Node → Type 0
+abbrev pub AreTraced : Inputs → List MetricFocusPair → List (List Bin) → List Node → Type 0
 AreTraced i xs rs ns = (k : ℕ) (n : Node) → slice_get ns k ≡ Some n → is_tried n.state ≡ true → HasTester i xs rs k n
 
-pub traced_back : (i : Inputs) (xs : List Shown) (rs : List (List Bin)) (ns ms : List Node) → IsBack ns ms → AreTraced i xs rs ns → AreTraced i xs rs ms
+pub traced_back : (i : Inputs) (xs : List MetricFocusPair) (rs : List (List Bin)) (ns ms : List Node) → IsBack ns ms → AreTraced i xs rs ns → AreTraced i xs rs ms
 traced_back i xs rs ns ms b h k n e t = h k n (b.back k n e (tried_old n.state t)) t
 
 -- one instrument more
-pub tester_left : (i : Inputs) (xs ys : List Shown) (rs : List (List Bin)) (k : ℕ) (n : Node) → HasTester i xs rs k n → HasTester i (xs ++ ys) rs k n
+pub tester_left : (i : Inputs) (xs ys : List MetricFocusPair) (rs : List (List Bin)) (k : ℕ) (n : Node) → HasTester i xs rs k n → HasTester i (xs ++ ys) rs k n
 tester_left i xs ys rs k n o =
     record { place = o.place; x = o.x; listed = shown_left xs ys o.place o.x o.listed; node = o.node; metric = o.metric; focus = o.focus; seen = o.seen; judged = o.judged }
 
-pub traced_room : (i : Inputs) (xs : List Shown) (rs : List (List Bin)) (ns : List Node) → AreTraced i xs rs ns → AreTraced i xs (with_room xs rs) ns
+pub traced_room : (i : Inputs) (xs : List MetricFocusPair) (rs : List (List Bin)) (ns : List Node) → AreTraced i xs rs ns → AreTraced i xs (with_room xs rs) ns
 traced_room i xs rs ns h k n e t =
     let o = h k n e t in
     record {
@@ -196,12 +196,12 @@ traced_room i xs rs ns h k n e t =
 -- ---- samples
 
 module _ (i : Inputs) (owns : List ℕ) (p : Placements) (t : ℕ) (timed : t ≡ length owns) (low : t < 2 ^ 64) (hs : List Hypothesis) (w : ℕ)
-    (xs : List Shown) (rs : List (List Bin)) (ns : List Node) (many : length rs ≡ length xs) (alone : AreAlone (tags xs)) (tests : AreTests i owns p ns no_node xs)
+    (xs : List MetricFocusPair) (rs : List (List Bin)) (ns : List Node) (many : length rs ≡ length xs) (alone : AreAlone (tags xs)) (tests : AreTests i owns p ns no_node xs)
     (traced : AreTraced i xs rs ns) where
   abbrev later : List Node
   later = with_samples hs w t (node_samples i p owns t xs) ns
 
-  abbrev xs1 : List Shown
+  abbrev xs1 : List MetricFocusPair
   xs1 = map (sampled_to p t) xs
 
   abbrev rs1 : List (List Bin)
@@ -221,7 +221,7 @@ module _ (i : Inputs) (owns : List ℕ) (p : Placements) (t : ℕ) (timed : t �
         record {
           place = o.place;
           x = o.x;
-          listed = sampled_at p t xs o.place o.x o.listed ∙ ap (λ (z : Shown). Some z) same;
+          listed = sampled_at p t xs o.place o.x o.listed ∙ ap (λ (z : MetricFocusPair). Some z) same;
           node = o.node;
           metric = o.metric;
           focus = o.focus;
@@ -240,7 +240,7 @@ module _ (i : Inputs) (owns : List ℕ) (p : Placements) (t : ℕ) (timed : t �
             let same : test.node ≡ y = some_same test.node y (sym test.stands ∙ stands) in
             let run : IsRunning i owns y test.plan o.x = subst (λ (z : Node). IsRunning i owns z test.plan o.x) same (test.running stage) in
             let active : y.state ≡ Active = ap (λ (z : Node). z.state) (sym same) ∙ test.active in
-            let m : Node = judged hs w (sampled t s y) in
+            let m : Node = with_verdict hs w (sampled t s y) in
             let takes_it : may_take s y ≡ true = may i owns t timed k o.x y test.plan o.focus run low active in
             let from : m.from ≡ run.at = begins i owns t timed k o.x y test.plan o.focus run in
             let armed : sampled_to p t o.x ≡ record (o.x) { from = t } = cond-true (is_armed p o.x) (record (o.x) { from = t }) o.x e in
@@ -248,7 +248,7 @@ module _ (i : Inputs) (owns : List ℕ) (p : Placements) (t : ℕ) (timed : t �
             (record {
               place = o.place;
               x = record (o.x) { from = t };
-              listed = sampled_at p t xs o.place o.x o.listed ∙ ap (λ (z : Shown). Some z) armed;
+              listed = sampled_at p t xs o.place o.x o.listed ∙ ap (λ (z : MetricFocusPair). Some z) armed;
               node = o.node;
               metric = o.metric ∙ sym (metric_sampled i hs w t s y);
               focus = o.focus;
@@ -275,24 +275,24 @@ module _ (i : Inputs) (owns : List ℕ) (p : Placements) (t : ℕ) (timed : t �
 -- ---- armings
 
 -- One after the armings: as it was, if it wasn't being placed.
-pub record IsBehind (m : Instrumented) (x y : Shown) : Type 0 where
+pub record IsBehind (m : Instrumented) (x y : MetricFocusPair) : Type 0 where
   pub same : (y ≡ x) ⊎ (state_of m.placer x.instrument.n ≡ Placing)
   pub node : y.node ≡ x.node
   pub metric : y.metric ≡ x.metric
   pub focus : y.focus ≡ x.focus
 
 module _ (i : Inputs) (owns : List ℕ) (t : ℕ) (timed : t ≡ length owns) where
-  first_behind : (m : Instrumented) (x : Shown) → IsBehind m x (armed_at t m x)
+  first_behind : (m : Instrumented) (x : MetricFocusPair) → IsBehind m x (armed_at t m x)
   first_behind m x = by (is_ready m x) refl
     where
       by : (b : Bool) → is_ready m x ≡ b → IsBehind m x (cond b (record x { armed = Some t; from = t }) x)
       by true e = record { same = inr (ready_placing m x e); node = refl; metric = refl; focus = refl }
       by false e = record { same = inl refl; node = refl; metric = refl; focus = refl }
 
-  pub armed_behind : (xs : List Shown) (m : Instrumented) (k : ℕ) (x : Shown) → IsRoster m.placer → AreApart (tags xs) → slice_get xs k ≡ Some x
-      → (y : Shown) × (slice_get (all_armed t m xs) k ≡ Some y) × IsBehind m x y
+  pub armed_behind : (xs : List MetricFocusPair) (m : Instrumented) (k : ℕ) (x : MetricFocusPair) → AreNumbered m.placer → AreApart (tags xs) → slice_get xs k ≡ Some x
+      → (y : MetricFocusPair) × (slice_get (all_armed t m xs) k ≡ Some y) × IsBehind m x y
   armed_behind [] m k x r a e = absurd cc
-  armed_behind (z ∷ xs) m zero x r a e = (armed_at t m z, refl, subst (λ (v : Shown). IsBehind m v (armed_at t m z)) (some_same z x e) (first_behind m z))
+  armed_behind (z ∷ xs) m zero x r a e = (armed_at t m z, refl, subst (λ (v : MetricFocusPair). IsBehind m v (armed_at t m z)) (some_same z x e) (first_behind m z))
   armed_behind (z ∷ xs) m (suc k) x r a e =
       let one = arms_are i owns t timed m (z ∷ []) r (tt, tt) in
       let b = armed_behind xs (machine_armed m z) k x one.roster a.1 e in
@@ -300,7 +300,7 @@ module _ (i : Inputs) (owns : List ℕ) (t : ℕ) (timed : t ≡ length owns) wh
       one.other x.instrument.n ((λ q. not_by_at z.instrument.n xs k x a.0 e (sym q)), tt) in
       (b.0, b.1, record { same = ⊎_elim (λ v. inl v) (λ v. inr (sym as_was ∙ v)) b.2.same; node = b.2.node; metric = b.2.metric; focus = b.2.focus })
 
-  pub traced_armed : (xs : List Shown) (rs : List (List Bin)) (ns : List Node) (m : Instrumented) → IsRoster m.placer → AreApart (tags xs) → ArePairs i owns m.placer xs rs
+  pub traced_armed : (xs : List MetricFocusPair) (rs : List (List Bin)) (ns : List Node) (m : Instrumented) → AreNumbered m.placer → AreApart (tags xs) → ArePairs i owns m.placer xs rs
       → AreTraced i xs rs ns → AreTraced i (all_armed t m xs) rs ns
   traced_armed xs rs ns m r a pairs h k n e tried =
       let o = h k n e tried in
@@ -316,7 +316,7 @@ module _ (i : Inputs) (owns : List ℕ) (t : ℕ) (timed : t ≡ length owns) wh
         judged = λ j.
             let z = o.judged j in
             ⊎_elim
-            (λ (v : b.0 ≡ o.x). (ap (λ (y : Shown). y.armed) v ∙ z.0, ap (λ (y : Shown). y.from) v ∙ z.1))
+            (λ (v : b.0 ≡ o.x). (ap (λ (y : MetricFocusPair). y.armed) v ∙ z.0, ap (λ (y : MetricFocusPair). y.from) v ∙ z.1))
             (λ v. absurd (never n.from (sym ((pair_at i owns m.placer xs rs o.place o.x pairs o.listed).placing v) ∙ z.0))) b.2.same;
       }
     where

@@ -13,7 +13,7 @@ use Rattle.rv_exec.specs.Start.{harts_from, start}
 use Rattle.rv_exec.proofs.Runs.{length-run_from}
 use Rattle.tramp_spec.specs.Harts.{Hart, is_tick}
 use Rattle.machine.specs.Cores.{Core, first_hart, start_core}
-use Rattle.machine.specs.Effects.{after, armed, owned}
+use Rattle.machine.specs.Effects.{after_event, armed_hart, owned}
 use Rattle.machine.specs.Events.{Event, Turn, Write, LinkMini, UnlinkMini, LinkPoint, UnlinkPoint, Free, Arm, Sample}
 use Rattle.machine.specs.Replays.{owns, replay}
 use Rattle.machine.specs.Turns.{fetched, turn_alone, turn_by}
@@ -28,7 +28,7 @@ use Rattle.instrument.specs.declared.event.Event.TheVariants as seen
 use Rattle.instrumented.specs.Instrumented.{Instrumented}
 use Rattle.instrumented.proofs.Acts.{whole_of}
 use Rattle.instrumented.proofs.Harts.{handed_same}
-use Rattle.session_spec.specs.declared.data.Shown.{Shown}
+use Rattle.session_spec.specs.declared.data.MetricFocusPair.{MetricFocusPair}
 use Rattle.session_spec.specs.Inputs.{Inputs}
 use Rattle.session_spec.specs.Ties.{IsTied}
 use Rattle.session_spec.specs.Readings.{ticks_of}
@@ -88,23 +88,23 @@ armed_ticks : (f : Hart → Hart) (o : Option Hart) → ((x : Hart) → (f x).ti
 armed_ticks f None e = refl
 armed_ticks f (Some x) e = e x
 
-ticks_after : (e : Event) (c : Core) (h : ℕ) → ticks_at (slice_get (after c e).harts h) ≡ ticks_at (slice_get c.harts h) + ticks_by (owned c e) h
+ticks_after : (e : Event) (c : Core) (h : ℕ) → ticks_at (slice_get (after_event c e).harts h) ≡ ticks_at (slice_get c.harts h) + ticks_by (owned c e) h
 ticks_after (Turn g) c h = turn_ticks c g h (slice_get c.harts g) refl
 ticks_after (Write b) c h = same_ticks c.harts c.harts h refl
-ticks_after (LinkMini p m) c h = same_ticks (after c (LinkMini p m)).harts c.harts h (handed_same (seen.LinkMini p m) c)
-ticks_after (UnlinkMini p m) c h = same_ticks (after c (UnlinkMini p m)).harts c.harts h (handed_same (seen.UnlinkMini p m) c)
-ticks_after (LinkPoint p) c h = same_ticks (after c (LinkPoint p)).harts c.harts h (handed_same (seen.LinkPoint p) c)
-ticks_after (UnlinkPoint p) c h = same_ticks (after c (UnlinkPoint p)).harts c.harts h (handed_same (seen.UnlinkPoint p) c)
+ticks_after (LinkMini p m) c h = same_ticks (after_event c (LinkMini p m)).harts c.harts h (handed_same (seen.LinkMini p m) c)
+ticks_after (UnlinkMini p m) c h = same_ticks (after_event c (UnlinkMini p m)).harts c.harts h (handed_same (seen.UnlinkMini p m) c)
+ticks_after (LinkPoint p) c h = same_ticks (after_event c (LinkPoint p)).harts c.harts h (handed_same (seen.LinkPoint p) c)
+ticks_after (UnlinkPoint p) c h = same_ticks (after_event c (UnlinkPoint p)).harts c.harts h (handed_same (seen.UnlinkPoint p) c)
 ticks_after (Free p) c h = same_ticks c.harts c.harts h refl
-ticks_after (Arm i) c h = let e = ap ticks_at (slice_get-map (armed c i) c.harts h) ∙ armed_ticks (armed c i) (slice_get c.harts h) (λ x. refl) in omega arith
+ticks_after (Arm i) c h = let e = ap ticks_at (slice_get-map (armed_hart c i) c.harts h) ∙ armed_ticks (armed_hart c i) (slice_get c.harts h) (λ x. refl) in omega arith
 ticks_after (Sample i) c h = same_ticks c.harts c.harts h refl
 
 ticks_on : (es : List Event) (c : Core) (h : ℕ) → ticks_at (slice_get (replay es c).harts h) ≡ ticks_at (slice_get c.harts h) + ticks_by (owns es c) h
 ticks_on [] c h = omega arith
 ticks_on (e ∷ es) c h =
     let first = ticks_after e c h in
-    let rest = ticks_on es (after c e) h in
-    let both = ticks_append (owned c e) (owns es (after c e)) h in
+    let rest = ticks_on es (after_event c e) h in
+    let both = ticks_append (owned c e) (owns es (after_event c e)) h in
     omega arith
 
 -- ---- from the start on
@@ -128,7 +128,7 @@ listed f (x ∷ xs) a e =
     let here : a + 0 ≡ a = omega arith in
     ap₂ (λ (n : ℕ) (l : List ℕ). n ∷ l) (e 0 x refl ∙ ap f here) (listed f xs (a + 1) (λ k y i. let there : a + suc k ≡ a + 1 + k = omega arith in e (suc k) y i ∙ ap f there))
 
-module _ (i : Inputs) (m : Instrumented) (own : List ℕ) (ss : List Shown) (lasts : List ℕ) (t : IsTied i m own ss lasts) where
+module _ (i : Inputs) (m : Instrumented) (own : List ℕ) (ss : List MetricFocusPair) (lasts : List ℕ) (t : IsTied i m own ss lasts) where
   abbrev es : List Event
   es = events_of t.acts (first_scene i.image i.settings.harts i.settings.budget i.settings.instruments)
 

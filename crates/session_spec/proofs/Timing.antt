@@ -6,12 +6,12 @@ use Rattle.pn_types.specs.declared.quantum.Quantum.{Quantum}
 use Rattle.w3_search.specs.declared.node.NodeSample.{NodeSample}
 use Rattle.w3_search.specs.Steps.{search_step}
 use Rattle.session_spec.specs.Inputs.{Inputs}
-use Rattle.session_spec.specs.States.{Kept, State}
+use Rattle.session_spec.specs.States.{SessionState, State}
 use Rattle.session_spec.specs.Turns.{with_entries, with_hart, with_quiet}
 use Rattle.session_spec.specs.Due.{with_arms, with_frees, with_next, with_samples}
 use Rattle.session_spec.specs.Admission.{with_admission}
 use Rattle.session_spec.specs.Verdicts.{with_search_end, with_verdicts}
-use Rattle.session_spec.specs.Work.{closed, is_due, state_admitted, state_done, state_last, state_quiet, state_turned, state_worked, tend, tests_now, work_from}
+use Rattle.session_spec.specs.Work.{final_state, is_due, state_admitted, state_done, state_last, state_quiet, state_turned, state_worked, after_quantum, tests_now, after_quanta_from}
 use Rattle.session_spec.specs.LastReadings.{handed_on}
 use Rattle.session_spec.proofs.AdmittingSteps.{Keeps, admission_kept}
 use Rattle.session_spec.proofs.Leaving.{tests_alone}
@@ -27,46 +27,46 @@ time_keeps i t = record {
   tested = λ k n node plan placer s w p m a e. e;
 }
 
-time_admission : (i : Inputs) (k : Kept) → (with_admission i k).time ≡ k.time
+time_admission : (i : Inputs) (k : SessionState) → (with_admission i k).time ≡ k.time
 time_admission i k = admission_kept i (λ j. j.time ≡ k.time) (time_keeps i k.time) k refl
 
-time_entries : (k : Kept) → (with_entries k).time ≡ k.time
+time_entries : (k : SessionState) → (with_entries k).time ≡ k.time
 unfolding with_entries
 time_entries k = refl
 
-time_samples : (k : Kept) → (with_samples k).time ≡ k.time
+time_samples : (k : SessionState) → (with_samples k).time ≡ k.time
 unfolding with_samples
 time_samples k = refl
 
-time_frees : (k : Kept) → (with_frees k).time ≡ k.time
+time_frees : (k : SessionState) → (with_frees k).time ≡ k.time
 unfolding with_frees
 time_frees k = refl
 
-time_arms : (k : Kept) → (with_arms k).time ≡ k.time
+time_arms : (k : SessionState) → (with_arms k).time ≡ k.time
 unfolding with_arms
 time_arms k = refl
 
-time_verdicts : (samples : List NodeSample) (k : Kept) → (with_verdicts samples k).time ≡ k.time
+time_verdicts : (samples : List NodeSample) (k : SessionState) → (with_verdicts samples k).time ≡ k.time
 unfolding with_verdicts
 time_verdicts samples k =
     let v = search_step k.time samples k.search in
-    ap (λ (z : Kept). z.time) (tests_alone v.drops (record k { search = v }))
+    ap (λ (z : SessionState). z.time) (tests_alone v.drops (record k { search = v }))
 
-time_next : (width : ℕ) (k : Kept) → (with_next width k).time ≡ k.time
+time_next : (width : ℕ) (k : SessionState) → (with_next width k).time ≡ k.time
 unfolding with_next
 time_next width k = refl
 
-time_end : (k : Kept) → (with_search_end k).time ≡ k.time
+time_end : (k : SessionState) → (with_search_end k).time ≡ k.time
 unfolding with_search_end
 time_end k = refl
 
 -- ---- turns take time
 
-time_hart : (h n : ℕ) (k : Kept) → k.time ≤ (with_hart h n k).time
+time_hart : (h n : ℕ) (k : SessionState) → k.time ≤ (with_hart h n k).time
 unfolding with_hart
 time_hart h n k = omega arith
 
-time_quiet : (k : Kept) → k.time ≤ (with_quiet k).time
+time_quiet : (k : SessionState) → k.time ≤ (with_quiet k).time
 unfolding with_quiet
 time_quiet k = omega arith
 
@@ -87,24 +87,24 @@ time_worked i s =
     let q = state_quiet s in
     cond_both (is_due s.kept) (state_done i q) s (λ (x : State). s.kept.time ≤ x.kept.time) (λ _. omega (arith, time_done i q, time_quiet s.kept)) (λ _. omega arith)
 
-time_tend : (i : Inputs) (h n : ℕ) (s : State) → s.kept.time ≤ (tend i h n s).kept.time
-unfolding tend
+time_tend : (i : Inputs) (h n : ℕ) (s : State) → s.kept.time ≤ (after_quantum i h n s).kept.time
+unfolding after_quantum
 time_tend i h n s =
     let a = state_admitted i s in
     let t = state_turned h n a in
     omega (arith, time_admission i s.kept, time_hart h n a.kept, time_entries t.kept, time_worked i (handed_on i h n s))
 
-pub time_from : (i : Inputs) (quanta : List Quantum) (s : State) → s.kept.time ≤ (work_from i quanta s).kept.time
+pub time_from : (i : Inputs) (quanta : List Quantum) (s : State) → s.kept.time ≤ (after_quanta_from i quanta s).kept.time
 time_from i [] s = omega arith
-time_from i (q ∷ quanta) s = omega (arith, time_tend i q.hart q.turns s, time_from i quanta (tend i q.hart q.turns s))
+time_from i (q ∷ quanta) s = omega (arith, time_tend i q.hart q.turns s, time_from i quanta (after_quantum i q.hart q.turns s))
 
 -- the end comes when the machine is quiet
-pub time_closed : (i : Inputs) (s : State) → (closed i s).kept.time ≡ (state_quiet s).kept.time
-unfolding closed
+pub time_closed : (i : Inputs) (s : State) → (final_state i s).kept.time ≡ (state_quiet s).kept.time
+unfolding final_state
 time_closed i s =
     let q = state_quiet s in
     cond_both (nat_lt q.kept.last q.kept.time) (state_last i q) q (λ (x : State). (with_search_end x.kept).time ≡ q.kept.time)
     (λ _. time_end (state_last i q).kept ∙ time_last i q) (λ _. time_end q.kept)
 
-pub time_before : (i : Inputs) (s : State) → s.kept.time ≤ (closed i s).kept.time
+pub time_before : (i : Inputs) (s : State) → s.kept.time ≤ (final_state i s).kept.time
 time_before i s = omega (arith, time_closed i s, time_quiet s.kept)

@@ -13,20 +13,20 @@ use Rattle.w3_search.specs.declared.node.Node.{Node}
 use Rattle.w3_search.specs.declared.node.NodeSample.{NodeSample}
 use Rattle.w3_search.specs.declared.node.NodeState.{NodeState}
 use Rattle.w3_search.specs.declared.node.NodeState.TheVariants.{Active, Barred, Confirmed, Rejected, Waiting, Unfinished}
-use Rattle.w3_search.specs.Nodes.{changed, in_state, is_waiting}
+use Rattle.w3_search.specs.Nodes.{with_node_changed, in_state, is_waiting}
 use Rattle.w3_search.specs.Steps.{SearchData, search_step, with_all_samples}
-use Rattle.session_spec.specs.declared.data.Shown.{Shown}
+use Rattle.session_spec.specs.declared.data.MetricFocusPair.{MetricFocusPair}
 use Rattle.session_spec.specs.Inputs.{Inputs, first_wishes}
 use Rattle.session_spec.specs.Searches.{rules_of}
-use Rattle.session_spec.specs.States.{Kept, State, first_kept}
+use Rattle.session_spec.specs.States.{SessionState, State, first_kept}
 use Rattle.session_spec.specs.Admission.{with_admission, shown_next}
 use Rattle.session_spec.specs.Turns.{with_entries, with_hart, with_quiet}
 use Rattle.session_spec.specs.Due.{recorded_with, sampled_to, with_arms, with_frees, with_next}
 use Rattle.session_spec.specs.Due as due
-use Rattle.session_spec.specs.Opening.{opened, wished, with_agenda}
+use Rattle.session_spec.specs.Opening.{opening_state, wished, with_agenda}
 use Rattle.session_spec.specs.Tests.{tested, tests_next, with_tests}
 use Rattle.session_spec.specs.Verdicts.{with_search_end, with_verdicts}
-use Rattle.session_spec.specs.Work.{closed, first_state, is_due, state_admitted, state_armed, state_done, state_ended, state_handed, state_last, state_quiet, state_sampled, state_turned, state_worked, tend, tests_now, work, work_from}
+use Rattle.session_spec.specs.Work.{final_state, first_state, is_due, state_admitted, state_armed, state_done, state_ended, state_handed, state_last, state_quiet, state_sampled, state_turned, state_worked, after_quantum, tests_now, after_quanta, after_quanta_from}
 use Rattle.w3_axes.specs.Refining.{threshold_of}
 use Rattle.w3_axes.specs.Testing.{holds}
 use Rattle.session_spec.proofs.Ends.{IsUnjudged}
@@ -47,41 +47,41 @@ module _ (i : Inputs) where
   -- ---- an admission
 
   -- with what was recorded before it
-  record IsTracing (owns : List ℕ) (rs : List (List Bin)) (k : Kept) : Type 0 where
+  record IsTracing (owns : List ℕ) (rs : List (List Bin)) (k : SessionState) : Type 0 where
     seen : IsSeen i owns k
     few : length rs ≤ length k.shown
     traced : AreTraced i k.shown rs k.search.nodes
 
   module _ (owns : List ℕ) (rs : List (List Bin)) where
-    abbrev P : Kept → Type 0
+    abbrev P : SessionState → Type 0
     P k = IsTracing owns rs k
 
-    trace_beside : (k j : Kept) → IsBeside k j → P k → P j
+    trace_beside : (k j : SessionState) → IsBeside k j → P k → P j
     trace_beside k j b s = record {
       seen = (seen_keeps i owns).beside k j b s.seen;
-      few = omega (arith, s.few, ap (λ (xs : List Shown). length xs) b.shown);
-      traced = subst (λ (v : SearchData). AreTraced i j.shown rs v.nodes) (sym b.search) (subst (λ (xs : List Shown). AreTraced i xs rs k.search.nodes) (sym b.shown) s.traced);
+      few = omega (arith, s.few, ap (λ (xs : List MetricFocusPair). length xs) b.shown);
+      traced = subst (λ (v : SearchData). AreTraced i j.shown rs v.nodes) (sym b.search) (subst (λ (xs : List MetricFocusPair). AreTraced i xs rs k.search.nodes) (sym b.shown) s.traced);
     }
 
     -- a node that waits no more
-    trace_state : (k : Kept) (n : ℕ) (node : Node) (q : NodeState) → slice_get k.search.nodes n ≡ Some node → (xs : List Shown) → AreTraced i xs rs k.search.nodes
-        → (is_tried q ≡ true → HasTester i xs rs n (in_state q node)) → AreTraced i xs rs (changed (in_state q) n k.search.nodes)
+    trace_state : (k : SessionState) (n : ℕ) (node : Node) (q : NodeState) → slice_get k.search.nodes n ≡ Some node → (xs : List MetricFocusPair) → AreTraced i xs rs k.search.nodes
+        → (is_tried q ≡ true → HasTester i xs rs n (in_state q node)) → AreTraced i xs rs (with_node_changed (in_state q) n k.search.nodes)
     trace_state k n node q stands xs h new m y e tried = by (cases_eq m n)
       where
         by : (m ≡ n) ⊎ (m ≡ n → ⊥) → HasTester i xs rs m y
         by (inl z) =
-            let same : in_state q node ≡ y = some_same (in_state q node) y (sym (changed_here (in_state q) k.search.nodes n node stands) ∙ (ap (slice_get (changed (in_state q) n k.search.nodes)) (sym z) ∙ e)) in
+            let same : in_state q node ≡ y = some_same (in_state q node) y (sym (changed_here (in_state q) k.search.nodes n node stands) ∙ (ap (slice_get (with_node_changed (in_state q) n k.search.nodes)) (sym z) ∙ e)) in
             let is : is_tried q ≡ true = ap (λ (v : Node). is_tried v.state) same ∙ tried in
             subst (λ (v : ℕ). HasTester i xs rs v y) (sym z) (subst (HasTester i xs rs n) same (new is))
         by (inr z) = h m y (sym (changed_there (in_state q) k.search.nodes n m z) ∙ e) tried
 
-    left_all : (k : Kept) (x : Shown) → P k → AreTraced i (k.shown ++ x ∷ []) rs k.search.nodes
+    left_all : (k : SessionState) (x : MetricFocusPair) → P k → AreTraced i (k.shown ++ x ∷ []) rs k.search.nodes
     left_all k x s n y e t = tester_left i k.shown (x ∷ []) rs n y (s.traced n y e t)
 
-    more_few : (k : Kept) (x : Shown) → P k → length rs ≤ length (k.shown ++ x ∷ [])
+    more_few : (k : SessionState) (x : MetricFocusPair) → P k → length rs ≤ length (k.shown ++ x ∷ [])
     more_few k x s = let f = s.few in omega (arith, length_push k.shown x)
 
-    trace_tested : (k : Kept) (n : ℕ) (node : Node) (plan : Plan) → slice_get k.search.nodes n ≡ Some node → is_waiting node.state ≡ true → P k
+    trace_tested : (k : SessionState) (n : ℕ) (node : Node) (plan : Plan) → slice_get k.search.nodes n ≡ Some node → is_waiting node.state ≡ true → P k
         → AreTraced i (tested i n node plan k).shown rs (tested i n node plan k).search.nodes
     trace_tested k n node plan stands waits s =
         let x = tests_next i n node k in
@@ -131,20 +131,20 @@ module _ (i : Inputs) where
       let k = with_admission i s.kept in
       record { seen = a.seen; tells = tells_admitted i s h.tells; traced = traced_room i k.shown s.recorded k.search.nodes a.traced }
 
-  same_hart : (h n : ℕ) (k : Kept) → ((with_hart h n k).shown ≡ k.shown) × ((with_hart h n k).search ≡ k.search)
+  same_hart : (h n : ℕ) (k : SessionState) → ((with_hart h n k).shown ≡ k.shown) × ((with_hart h n k).search ≡ k.search)
   unfolding with_hart
   same_hart h n k = (refl, refl)
 
-  same_quiet : (k : Kept) → ((with_quiet k).shown ≡ k.shown) × ((with_quiet k).search ≡ k.search)
+  same_quiet : (k : SessionState) → ((with_quiet k).shown ≡ k.shown) × ((with_quiet k).search ≡ k.search)
   unfolding with_quiet
   same_quiet k = (refl, refl)
 
-  same_entries : (k : Kept) → ((with_entries k).shown ≡ k.shown) × ((with_entries k).search ≡ k.search)
+  same_entries : (k : SessionState) → ((with_entries k).shown ≡ k.shown) × ((with_entries k).search ≡ k.search)
   unfolding with_entries
   same_entries k = (refl, refl)
 
-  as_before : (k j : Kept) (rs : List (List Bin)) → (j.shown ≡ k.shown) × (j.search ≡ k.search) → AreTraced i k.shown rs k.search.nodes → AreTraced i j.shown rs j.search.nodes
-  as_before k j rs e h = subst (λ (v : SearchData). AreTraced i j.shown rs v.nodes) (sym e.1) (subst (λ (xs : List Shown). AreTraced i xs rs k.search.nodes) (sym e.0) h)
+  as_before : (k j : SessionState) (rs : List (List Bin)) → (j.shown ≡ k.shown) × (j.search ≡ k.search) → AreTraced i k.shown rs k.search.nodes → AreTraced i j.shown rs j.search.nodes
+  as_before k j rs e h = subst (λ (v : SearchData). AreTraced i j.shown rs v.nodes) (sym e.1) (subst (λ (xs : List MetricFocusPair). AreTraced i xs rs k.search.nodes) (sym e.0) h)
 
   traced_turned : (h n : ℕ) (s : State) → IsTraced s → IsTraced (state_turned h n s)
   traced_turned h n s z = record {
@@ -170,7 +170,7 @@ module _ (i : Inputs) where
   -- ---- a due work
 
   module _ (some : 1 ≤ (rules_of i).decl.window) (s : State) (low : s.kept.time < 2 ^ 64) (z : IsTraced s) where
-    abbrev k : Kept
+    abbrev k : SessionState
     k = s.kept
 
     abbrev p : Placements
@@ -179,7 +179,7 @@ module _ (i : Inputs) where
     abbrev samples : List NodeSample
     samples = tests_now i s
 
-    abbrev xs1 : List Shown
+    abbrev xs1 : List MetricFocusPair
     xs1 = map (sampled_to p k.time) k.shown
 
     abbrev rs1 : List (List Bin)
@@ -192,15 +192,15 @@ module _ (i : Inputs) where
     traced_first = traced_sampled i s.owns p k.time z.seen.time low k.search.rules.hypotheses k.search.rules.decl.window k.shown s.recorded k.search.nodes z.tells.many z.seen.alone z.seen.tests z.traced
 
     -- after the step of the search
-    traced_judged : (a : Kept) (rs : List (List Bin)) → a.time ≡ k.time → a.search ≡ k.search → AreTraced i a.shown rs first.nodes
+    traced_judged : (a : SessionState) (rs : List (List Bin)) → a.time ≡ k.time → a.search ≡ k.search → AreTraced i a.shown rs first.nodes
         → AreTraced i (with_verdicts samples a).shown rs (with_verdicts samples a).search.nodes
     unfolding with_verdicts search_step
     traced_judged a rs t e h =
         let v = search_step a.time samples a.search in
         let same : v ≡ search_step k.time samples k.search = ap (λ (t : ℕ). search_step t samples a.search) t ∙ ap (search_step k.time samples) e in
-        let w : Kept = record a { search = v } in
+        let w : SessionState = record a { search = v } in
         let b = traced_back i a.shown rs first.nodes (search_step k.time samples k.search).nodes (back_step k.time first) h in
-        subst (λ (x : Kept). AreTraced i x.shown rs x.search.nodes) (sym (tests_alone v.drops w)) (subst (λ (x : SearchData). AreTraced i a.shown rs x.nodes) (sym same) b)
+        subst (λ (x : SessionState). AreTraced i x.shown rs x.search.nodes) (sym (tests_alone v.drops w)) (subst (λ (x : SearchData). AreTraced i a.shown rs x.nodes) (sym same) b)
 
     traced_arms : AreTraced i (state_armed (state_sampled i s)).kept.shown rs1 first.nodes
     unfolding with_arms with_frees due.with_samples
@@ -217,7 +217,7 @@ module _ (i : Inputs) where
     unfolding due.with_samples
     same_last = (refl, refl, refl)
 
-    traced_next : (width : ℕ) (a : Kept) (rs : List (List Bin)) → AreTraced i a.shown rs a.search.nodes → AreTraced i (with_next width a).shown rs (with_next width a).search.nodes
+    traced_next : (width : ℕ) (a : SessionState) (rs : List (List Bin)) → AreTraced i a.shown rs a.search.nodes → AreTraced i (with_next width a).shown rs (with_next width a).search.nodes
     unfolding with_next
     traced_next width a rs h = h
 
@@ -236,7 +236,7 @@ module _ (i : Inputs) where
         record {
           seen = seen_last i some s low z.seen;
           tells = tells_last i s z.tells;
-          traced = traced_judged a rs1 same_last.0 same_last.1 (subst (λ (xs : List Shown). AreTraced i xs rs1 first.nodes) (sym same_last.2) traced_first);
+          traced = traced_judged a rs1 same_last.0 same_last.1 (subst (λ (xs : List MetricFocusPair). AreTraced i xs rs1 first.nodes) (sym same_last.2) traced_first);
         }
 
   module _ (some : 1 ≤ (rules_of i).decl.window) where
@@ -246,8 +246,8 @@ module _ (i : Inputs) where
         cond_both (is_due s.kept) (state_done i q) s (λ (x : State). x.kept.time < 2 ^ 64 → IsTraced x)
         (λ _ l. traced_done some q (omega (arith, l, time_done i q)) (traced_quiet s z)) (λ _ l. z) low
 
-    pub traced_tend : (h n : ℕ) (s : State) → (tend i h n s).kept.time < 2 ^ 64 → IsTraced s → IsTraced (tend i h n s)
-    unfolding tend
+    pub traced_tend : (h n : ℕ) (s : State) → (after_quantum i h n s).kept.time < 2 ^ 64 → IsTraced s → IsTraced (after_quantum i h n s)
+    unfolding after_quantum
     traced_tend h n s low z = traced_worked (handed_on i h n s) low (traced_handed (state_turned h n (state_admitted i s)) (traced_turned h n (state_admitted i s) (traced_admitted s z)))
 
     -- ---- all quanta
@@ -264,19 +264,19 @@ module _ (i : Inputs) where
     unfolding wished
     picked_tracing = tests_kept i (IsTracing [] []) (of_nodes i (IsTracing [] []) (trace_keeps [] [])) (wished i) (all_kept i (IsTracing [] []) (of_wishes i (IsTracing [] []) (trace_keeps [] [])) (first_wishes i) (first_kept i) start_tracing)
 
-    opened_traced : AreTraced i (opened i).shown [] (opened i).search.nodes
+    opened_traced : AreTraced i (opening_state i).shown [] (opening_state i).search.nodes
     unfolding with_arms with_agenda
     opened_traced =
         let k = with_tests i (wished i) in
         let a = tell_agenda i [] [] k (picked_telling i) in
         traced_armed i [] k.time a.time k.shown [] k.search.nodes (with_agenda k).machine a.roster a.apart a.pairs picked_tracing.traced
 
-    row_blanks : (xs : List Shown) (k : ℕ) → row (map (λ (s : Shown). []) xs) k ≡ []
+    row_blanks : (xs : List MetricFocusPair) (k : ℕ) → row (map (λ (s : MetricFocusPair). []) xs) k ≡ []
     row_blanks [] k = refl
     row_blanks (x ∷ xs) zero = refl
     row_blanks (x ∷ xs) (suc k) = row_blanks xs k
 
-    blanks_traced : (xs : List Shown) (ns : List Node) → AreTraced i xs [] ns → AreTraced i xs (map (λ (s : Shown). []) xs) ns
+    blanks_traced : (xs : List MetricFocusPair) (ns : List Node) → AreTraced i xs [] ns → AreTraced i xs (map (λ (s : MetricFocusPair). []) xs) ns
     blanks_traced xs ns h k n e t =
         let o = h k n e t in
         record {
@@ -291,16 +291,16 @@ module _ (i : Inputs) where
         }
 
     traced_first_state : IsTraced (first_state i)
-    traced_first_state = record { seen = seen_first i some; tells = tells_first i; traced = blanks_traced (opened i).shown (opened i).search.nodes opened_traced }
+    traced_first_state = record { seen = seen_first i some; tells = tells_first i; traced = blanks_traced (opening_state i).shown (opening_state i).search.nodes opened_traced }
 
-    traced_from : (quanta : List Quantum) (s : State) → (work_from i quanta s).kept.time < 2 ^ 64 → IsTraced s → IsTraced (work_from i quanta s)
+    traced_from : (quanta : List Quantum) (s : State) → (after_quanta_from i quanta s).kept.time < 2 ^ 64 → IsTraced s → IsTraced (after_quanta_from i quanta s)
     traced_from [] s low z = z
     traced_from (q ∷ quanta) s low z =
-        let t = tend i q.hart q.turns s in
+        let t = after_quantum i q.hart q.turns s in
         traced_from quanta t low (traced_tend q.hart q.turns s (omega (arith, low, time_from i quanta t)) z)
 
-    pub traced_work : (quanta : List Quantum) → (work i quanta).kept.time < 2 ^ 64 → IsTraced (work i quanta)
-    unfolding work
+    pub traced_work : (quanta : List Quantum) → (after_quanta i quanta).kept.time < 2 ^ 64 → IsTraced (after_quanta i quanta)
+    unfolding after_quanta
     traced_work quanta low = traced_from quanta (first_state i) low traced_first_state
 
     -- ---- the end
@@ -309,8 +309,8 @@ module _ (i : Inputs) where
     unfolding with_search_end
     ended_traced s z = traced_back i s.kept.shown s.recorded s.kept.search.nodes _ (back_finished s.kept.search.nodes) z.traced
 
-    pub closed_traced : (s : State) → (closed i s).kept.time < 2 ^ 64 → IsTraced s → AreTraced i (closed i s).kept.shown (closed i s).recorded (closed i s).kept.search.nodes
-    unfolding closed
+    pub closed_traced : (s : State) → (final_state i s).kept.time < 2 ^ 64 → IsTraced s → AreTraced i (final_state i s).kept.shown (final_state i s).recorded (final_state i s).kept.search.nodes
+    unfolding final_state
     closed_traced s low z =
         let q = state_quiet s in
         let quiet = traced_quiet s z in
@@ -358,18 +358,18 @@ module _ (i : Inputs) where
   abbrev pub IsTraceable : State → ℕ → Node → Type 0
   IsTraceable s k n = IsRuled i s.owns n × IsTested i s k n
 
-  pub judged_told : (some : 1 ≤ (rules_of i).decl.window) (quanta : List Quantum) → (work i quanta).kept.time < 2 ^ 64
-      → (k : ℕ) (n : Node) → slice_get (work i quanta).kept.search.nodes k ≡ Some n → (n.state ≡ Confirmed) ⊎ (n.state ≡ Rejected) → IsTraceable (work i quanta) k n
+  pub judged_told : (some : 1 ≤ (rules_of i).decl.window) (quanta : List Quantum) → (after_quanta i quanta).kept.time < 2 ^ 64
+      → (k : ℕ) (n : Node) → slice_get (after_quanta i quanta).kept.search.nodes k ≡ Some n → (n.state ≡ Confirmed) ⊎ (n.state ≡ Rejected) → IsTraceable (after_quanta i quanta) k n
   judged_told some quanta low k n e c =
       let z = traced_work some quanta low in
       let v = all_judged i some quanta low k n e (has_verdict n c) in
-      (v, is_tested (work i quanta) z.tells.many z.traced k n e (has_verdict n c) v.window)
+      (v, is_tested (after_quanta i quanta) z.tells.many z.traced k n e (has_verdict n c) v.window)
 
-  pub ended_told : (some : 1 ≤ (rules_of i).decl.window) (quanta : List Quantum) → (closed i (work i quanta)).kept.time < 2 ^ 64
-      → (k : ℕ) (n : Node) → slice_get (closed i (work i quanta)).kept.search.nodes k ≡ Some n → IsTraceable (closed i (work i quanta)) k n ⊎ IsUnjudged i n
+  pub ended_told : (some : 1 ≤ (rules_of i).decl.window) (quanta : List Quantum) → (final_state i (after_quanta i quanta)).kept.time < 2 ^ 64
+      → (k : ℕ) (n : Node) → slice_get (final_state i (after_quanta i quanta)).kept.search.nodes k ≡ Some n → IsTraceable (final_state i (after_quanta i quanta)) k n ⊎ IsUnjudged i n
   ended_told some quanta low k n e =
-      let s = work i quanta in
-      let c = closed i s in
+      let s = after_quanta i quanta in
+      let c = final_state i s in
       let h = closed_traced some s low (traced_work some quanta (omega (arith, low, time_before i s))) in
       let many = (tells_closed i s (tells_work i quanta)).many in
       ⊎_elim
@@ -380,5 +380,5 @@ module _ (i : Inputs) where
       ruled true = refl
       ruled false = refl
 
-      verdict_judged : (n : Node) → IsRuled i (closed i (work i quanta)).owns n → is_judged n.state ≡ true
+      verdict_judged : (n : Node) → IsRuled i (final_state i (after_quanta i quanta)).owns n → is_judged n.state ≡ true
       verdict_judged n v = ap is_judged v.verdict ∙ ruled (holds n.value n.ticks (threshold_of (rules_of i).hypotheses n.hypothesis))

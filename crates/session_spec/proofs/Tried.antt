@@ -13,8 +13,8 @@ use Rattle.w3_search.specs.declared.node.Node.{Node}
 use Rattle.w3_search.specs.declared.node.NodeSample.{NodeSample}
 use Rattle.w3_search.specs.declared.node.NodeState.{NodeState}
 use Rattle.w3_search.specs.declared.node.NodeState.TheVariants.{Waiting, Active, Confirmed, Rejected, Barred, Unfinished}
-use Rattle.w3_search.specs.Nodes.{changed, finished, is_active, is_confirmed, is_free, is_open, new_node, place, sampled, unfinished, with_node}
-use Rattle.w3_search.specs.Steps.{SearchData, begun, judged, may_take, new_search, Rules, with_all_families, with_all_phases, with_children, with_families, with_family, with_family_of, with_phases, with_roots, with_sample, with_samples}
+use Rattle.w3_search.specs.Nodes.{with_node_changed, node_at_end, is_active, is_confirmed, is_free, is_open, new_node, place, sampled, unfinished, with_node}
+use Rattle.w3_search.specs.Steps.{SearchData, with_next_phase, with_verdict, may_take, new_search, Rules, with_all_families, with_all_phases, with_children, with_families, with_family, with_family_of, with_phases, with_roots, with_sample, with_samples}
 use Rattle.w3_search.proofs.Changes.{all_children, all_roots}
 use Rattle.session_spec.proofs.Grown.{get_push}
 
@@ -54,7 +54,7 @@ active_is (Unfinished seen) e = absurd (true≢false (sym e))
 
 -- ---- one node is changed
 
-pub get_changed : (f : Node → Node) (i : ℕ) (ns : List Node) (k : ℕ) (m : Node) → slice_get (changed f i ns) k ≡ Some m
+pub get_changed : (f : Node → Node) (i : ℕ) (ns : List Node) (k : ℕ) (m : Node) → slice_get (with_node_changed f i ns) k ≡ Some m
     → (y : Node) × (slice_get ns k ≡ Some y) × ((m ≡ y) ⊎ (m ≡ f y))
 get_changed f i [] k m e = absurd cc
 get_changed f zero (n ∷ ns) zero m e = let s : m ≡ f n = cc in (n, refl, inr s)
@@ -66,14 +66,14 @@ get_changed f (suc i) (n ∷ ns) (suc k) m e = get_changed f i ns k m e
 
 -- what a sample makes of the node that it is of
 abbrev pub sample_on : List Hypothesis → ℕ → ℕ → NodeSample → Node → Node
-sample_on hs w t s n = cond (may_take s n) (judged hs w (sampled t s n)) n
+sample_on hs w t s n = cond (may_take s n) (with_verdict hs w (sampled t s n)) n
 
 -- it is as it was, or was under test, and is now or was until now
 abbrev pub IsFrom : List Node → ℕ → Node → Type 0
 IsFrom ns k m = (y : Node) × (slice_get ns k ≡ Some y) × ((m ≡ y) ⊎ ((y.state ≡ Active) × (is_tried m.state ≡ true)))
 
 module _ (hs : List Hypothesis) (w t : ℕ) where
-  judged_is : (y : Node) (s : NodeSample) → y.state ≡ Active → is_tried (judged hs w (sampled t s y)).state ≡ true
+  judged_is : (y : Node) (s : NodeSample) → y.state ≡ Active → is_tried (with_verdict hs w (sampled t s y)).state ≡ true
   judged_is y s e = by ((y.seen + 1) == w)
     where
       ruled : (b : Bool) → is_tried (cond b Confirmed Rejected) ≡ true
@@ -92,8 +92,8 @@ module _ (hs : List Hypothesis) (w t : ℕ) where
       by : (y : Node) → (may_take s y ≡ true) ⊎ (may_take s y ≡ false) → m ≡ sample_on hs w t s y → (m ≡ y) ⊎ ((y.state ≡ Active) × (is_tried m.state ≡ true))
       by y (inl c) z =
           let a = active_is y.state (and_parts (is_active y.state) (nat_lt (y.ticks + s.ticks) (2 ^ 64)) c).0 in
-          inr (a, ap (λ (v : Node). is_tried v.state) (z ∙ cond-true (may_take s y) (judged hs w (sampled t s y)) y c) ∙ judged_is y s a)
-      by y (inr c) z = inl (z ∙ cond-false (may_take s y) (judged hs w (sampled t s y)) y c)
+          inr (a, ap (λ (v : Node). is_tried v.state) (z ∙ cond-true (may_take s y) (with_verdict hs w (sampled t s y)) y c) ∙ judged_is y s a)
+      by y (inr c) z = inl (z ∙ cond-false (may_take s y) (with_verdict hs w (sampled t s y)) y c)
 
   pub from_samples : (ss : List NodeSample) (ns : List Node) (k : ℕ) (m : Node) → slice_get (with_samples hs w t ss ns) k ≡ Some m → IsFrom ns k m
   from_samples [] ns k m e = (m, e, inl refl)
@@ -163,14 +163,14 @@ back_unfinished q ns = record {
       g.1 ∙ ap (λ (y : Node). Some y) (sym same);
 }
 
-back_begun : (v : SearchData) → IsBack v.nodes (begun v).nodes
+back_begun : (v : SearchData) → IsBack v.nodes (with_next_phase v).nodes
 back_begun v = back_roots (v.present + 1) (roots v.rules.hypotheses) v.nodes (map (unfinished v.present) v.nodes) (back_unfinished v.present v.nodes)
 
 back_phases : (t : ℕ) (ps : List PhaseDecl) (v : SearchData) → IsBack v.nodes (with_phases t ps v).nodes
 back_phases t [] v = back_none v.nodes
 back_phases t (p ∷ ps) v =
-    cond_both (nat_le p.at t) (with_phases t ps (begun v)) v (λ (w : SearchData). IsBack v.nodes w.nodes)
-    (λ _. back_on v.nodes (begun v).nodes (with_phases t ps (begun v)).nodes (back_begun v) (back_phases t ps (begun v))) (λ _. back_none v.nodes)
+    cond_both (nat_le p.at t) (with_phases t ps (with_next_phase v)) v (λ (w : SearchData). IsBack v.nodes w.nodes)
+    (λ _. back_on v.nodes (with_next_phase v).nodes (with_phases t ps (with_next_phase v)).nodes (back_begun v) (back_phases t ps (with_next_phase v))) (λ _. back_none v.nodes)
 
 -- of the nodes after the samples
 pub back_step : (t : ℕ) (v : SearchData) → IsBack v.nodes (with_all_phases t (with_all_families v)).nodes
@@ -185,14 +185,14 @@ none_tried r = back_roots 0 (roots r.hypotheses) [] [] (back_none [])
 
 -- ---- the end of the search
 
-pub back_finished : (ns : List Node) → IsBack ns (map finished ns)
+pub back_finished : (ns : List Node) → IsBack ns (map node_at_end ns)
 back_finished ns = record {
   back = λ k m e t.
-      let g = get_map finished ns k m e in
+      let g = get_map node_at_end ns k m e in
       let same : m ≡ g.0 = g.2 ∙ by g.0 (cases_Bool (is_open (g.0).state)) (ap (λ (y : Node). is_old y.state) (sym g.2) ∙ t) in
       g.1 ∙ ap (λ (y : Node). Some y) (sym same);
 }
   where
-    by : (n : Node) → (is_open n.state ≡ true) ⊎ (is_open n.state ≡ false) → is_old (finished n).state ≡ true → finished n ≡ n
+    by : (n : Node) → (is_open n.state ≡ true) ⊎ (is_open n.state ≡ false) → is_old (node_at_end n).state ≡ true → node_at_end n ≡ n
     by n (inl e) t = absurd (true≢false (sym t ∙ ap is_old (cond-true (is_open n.state) (Unfinished n.seen) n.state e)))
     by n (inr e) t = ap (λ (s : NodeState). record n { state = s }) (cond-false (is_open n.state) (Unfinished n.seen) n.state e)

@@ -7,7 +7,7 @@ use Rattle.pn_types.specs.declared.focus.Axis.TheVariants.{Code, Machine, SyncOb
 use Rattle.pn_types.specs.declared.focus.Focus.{Focus}
 use Rattle.mdl_ast.specs.declared.items.Hypothesis.{Hypothesis}
 use Rattle.resource_tree.specs.Foci as foci
-use Rattle.resource_tree.specs.Foci.{IsBelow, code_children, flat_children, harts_of, with_code, with_hart, with_object}
+use Rattle.resource_tree.specs.Foci.{IsBelow, code_children, flat_children, harts_of_node, with_code, with_hart, with_object}
 use Rattle.resource_tree.specs.Resources.{Resources}
 use Rattle.w3_axes.specs.Refining.{axes_named, children, children_of, finer, finer_on, refinements}
 use Rattle.w3_search.specs.History.{In, IsChild, IsHistory, IsRoot, lineage_of}
@@ -85,6 +85,6 @@ pub within : (v : SearchData) → IsHistory v → (n : ℕ) (node : Node) → sl
 within v k n node e = below v k (suc n) n node (omega arith) e
 
 -- harts of a focus are among these
-pub harts_within : (harts : ℕ) (hart : Option ℕ) → IsBelow harts hart → (harts_of harts hart).0 + (harts_of harts hart).1 ≤ harts
+pub harts_within : (harts : ℕ) (hart : Option ℕ) → IsBelow harts hart → (harts_of_node harts hart).0 + (harts_of_node harts hart).1 ≤ harts
 harts_within harts None l = omega arith
 harts_within harts (Some h) l = omega arith

@@ -37,8 +37,8 @@ inputs_of image checked tree procs points settings =
 -- ---- plans
 
 -- the harts of a focus
-abbrev pub harts_of : Inputs → Focus → List ℕ
-harts_of i focus = (part i.tree focus).harts
+abbrev pub harts_of_focus : Inputs → Focus → List ℕ
+harts_of_focus i focus = (part i.tree focus).harts
 
 -- a number that no metric has isn't wished
 abbrev pub plan_by : Option Metric → Inputs → Focus → Result Plan PlanFault

@@ -9,7 +9,7 @@ use Rattle.session_spec.specs.Due.{recorded_with, with_frees}
 use Rattle.session_spec.specs.Opening.{wished, with_agenda}
 use Rattle.session_spec.specs.Tests.{with_tests}
 use Rattle.session_spec.specs.Readings.{lasts_armed, lasts_now, lasts_with, recorded_read}
-use Rattle.session_spec.specs.Work.{first_state, is_due, state_admitted, state_handed, state_quiet, state_sampled, state_turned, tend}
+use Rattle.session_spec.specs.Work.{first_state, is_due, state_admitted, state_handed, state_quiet, state_sampled, state_turned, after_quantum}
 
 -- ---- what was read last of each instrument
 
@@ -40,7 +40,7 @@ lasts_tended i h n s lasts =
 
 abbrev pub lasts_from : Inputs → List Quantum → State → List ℕ → List ℕ
 lasts_from i [] s lasts = lasts
-lasts_from i (q ∷ quanta) s lasts = lasts_from i quanta (tend i q.hart q.turns s) (lasts_tended i q.hart q.turns s lasts)
+lasts_from i (q ∷ quanta) s lasts = lasts_from i quanta (after_quantum i q.hart q.turns s) (lasts_tended i q.hart q.turns s lasts)
 
 -- after these quanta
 unfoldable pub lasts_of : Inputs → List Quantum → List ℕ

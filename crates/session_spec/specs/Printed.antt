@@ -5,7 +5,7 @@ use Rattle.fold_hist.specs.declared.bin.Bin.{Bin}
 use Rattle.pn_types.specs.declared.plan.Plan.{Plan}
 use Rattle.machine.specs.Cores.{In}
 use Rattle.mdl_check.specs.declared.checked.CheckedWish.{CheckedWish}
-use Rattle.session_spec.specs.declared.data.Shown.{Shown}
+use Rattle.session_spec.specs.declared.data.MetricFocusPair.{MetricFocusPair}
 use Rattle.session_spec.specs.Inputs.{Inputs, planned}
 use Rattle.session_spec.specs.States.{State}
 use Rattle.session_spec.specs.Bins.{AreMeasured}
@@ -16,7 +16,7 @@ AreForOpening i = (w : CheckedWish) → In w i.checked.wishes → (w.at ≡ 0) �
 
 -- A pair was armed at time 0, and its samples follow one another through the whole run of the program alone, and so do the bins of
 -- their histogram. Each is what its metric's plan measures over it.
-pub record IsWholeRun (i : Inputs) (owns : List ℕ) (x : Shown) (r : List Bin) : Type 0 where
+pub record IsWholeRun (i : Inputs) (owns : List ℕ) (x : MetricFocusPair) (r : List Bin) : Type 0 where
   pub plan : Plan
   pub planned : planned i x.metric x.focus ≡ Ok plan
   pub armed : x.armed ≡ Some 0
@@ -27,5 +27,5 @@ pub record IsWholeRun (i : Inputs) (owns : List ℕ) (x : Shown) (r : List Bin) 
 -- this holds for each pair that was wished
 abbrev pub AreWholeRuns : Inputs → State → Type 0
 AreWholeRuns i s =
-    (n : ℕ) (x : Shown) (samples : List Bin)
+    (n : ℕ) (x : MetricFocusPair) (samples : List Bin)
     → slice_get s.kept.shown n ≡ Some x → slice_get s.recorded n ≡ Some samples → x.node ≡ None → IsWholeRun i s.owns x samples

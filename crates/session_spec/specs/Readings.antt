@@ -7,8 +7,8 @@ use Rattle.machine.specs.Readings.{readings}
 use Rattle.instrument.specs.Placements.{instrument_at}
 use Rattle.instrument.specs.declared.instrument.Instrument.{Instrument}
 use Rattle.instrumented.specs.Instrumented.{Instrumented}
-use Rattle.session_spec.specs.declared.data.Shown.{Shown}
-use Rattle.session_spec.specs.Inputs.{Inputs, harts_of}
+use Rattle.session_spec.specs.declared.data.MetricFocusPair.{MetricFocusPair}
+use Rattle.session_spec.specs.Inputs.{Inputs, harts_of_focus}
 use Rattle.session_spec.specs.Due.{is_armed, is_ready, machine_armed}
 
 -- ---- readings
@@ -18,26 +18,26 @@ reading_by None harts c = 0
 reading_by (Some x) harts c = readings x.placed harts c
 
 -- the sum of an instrument's readings over the harts of its focus, modulo 2^64
-abbrev pub read_now : Inputs → Instrumented → Shown → ℕ
-read_now i m s = reading_by (instrument_at m.placer s.instrument.n) (harts_of i s.focus) m.core
+abbrev pub read_now : Inputs → Instrumented → MetricFocusPair → ℕ
+read_now i m s = reading_by (instrument_at m.placer s.instrument.n) (harts_of_focus i s.focus) m.core
 
 -- ---- what was read last of each instrument
 
 -- an instrument that was just admitted was not read yet
-abbrev pub lasts_with : List Shown → List ℕ → List ℕ
+abbrev pub lasts_with : List MetricFocusPair → List ℕ → List ℕ
 lasts_with ss lasts = lasts ++ replicate (length ss - length lasts) 0
 
 -- what is read last after a due work
-abbrev pub last_now : Inputs → Instrumented → Shown → ℕ → ℕ
+abbrev pub last_now : Inputs → Instrumented → MetricFocusPair → ℕ → ℕ
 last_now i m s last = if is_armed m.placer s then read_now i m s else last
 
-abbrev pub lasts_now : Inputs → Instrumented → List Shown → List ℕ → List ℕ
+abbrev pub lasts_now : Inputs → Instrumented → List MetricFocusPair → List ℕ → List ℕ
 lasts_now i m [] lasts = []
 lasts_now i m (s ∷ ss) [] = []
 lasts_now i m (s ∷ ss) (last ∷ lasts) = last_now i m s last ∷ lasts_now i m ss lasts
 
 -- what is read last after the armings of a due work: of an instrument that is armed, its readings then
-abbrev pub lasts_armed : Inputs → Instrumented → List Shown → List ℕ → List ℕ
+abbrev pub lasts_armed : Inputs → Instrumented → List MetricFocusPair → List ℕ → List ℕ
 lasts_armed i m [] lasts = []
 lasts_armed i m (s ∷ ss) [] = []
 lasts_armed i m (s ∷ ss) (last ∷ lasts) =
@@ -46,10 +46,10 @@ lasts_armed i m (s ∷ ss) (last ∷ lasts) =
 -- ---- samples as they are read
 
 -- a difference of readings
-abbrev pub sum_read : Inputs → Instrumented → Shown → ℕ → ℕ
+abbrev pub sum_read : Inputs → Instrumented → MetricFocusPair → ℕ → ℕ
 sum_read i m s last = difference last (read_now i m s)
 
-abbrev pub recorded_read : Inputs → Instrumented → ℕ → List Shown → List ℕ → List (List Bin) → List (List Bin)
+abbrev pub recorded_read : Inputs → Instrumented → ℕ → List MetricFocusPair → List ℕ → List (List Bin) → List (List Bin)
 recorded_read i m time [] lasts rs = rs
 recorded_read i m time (s ∷ ss) [] rs = []
 recorded_read i m time (s ∷ ss) (last ∷ lasts) [] = []

@@ -11,8 +11,8 @@ use Rattle.instrument.specs.declared.number.State.TheVariants.{Armed}
 use Rattle.instrumented.specs.Instrumented.{Instrumented}
 use Rattle.instrumented.specs.Reached.{Leads}
 use Rattle.instrumented.specs.Readings.{Course, Opening, owns_at, scene_at, time_at, to_earlier, to_later}
-use Rattle.session_spec.specs.declared.data.Shown.{Shown}
-use Rattle.session_spec.specs.Inputs.{Inputs, harts_of, planned}
+use Rattle.session_spec.specs.declared.data.MetricFocusPair.{MetricFocusPair}
+use Rattle.session_spec.specs.Inputs.{Inputs, harts_of_focus, planned}
 use Rattle.session_spec.specs.Plans.{IsGood}
 
 abbrev pub opening_of : Inputs → Opening
@@ -22,7 +22,7 @@ opening_of i = record { image = i.image; harts = i.settings.harts; budget = i.se
 
 -- It was armed in the course of these acts, and read at a later moment at which no hart was inside a trampoline. What was read last
 -- is its readings then.
-pub record IsRead (o : Opening) (acts : List Act) (harts : List ℕ) (s : Shown) (last : ℕ) : Type 0 where
+pub record IsRead (o : Opening) (acts : List Act) (harts : List ℕ) (s : MetricFocusPair) (last : ℕ) : Type 0 where
   pub course : Course
   pub all : acts ≡ to_later s.instrument.n course
   pub armed : s.armed ≡ Some (time_at o course.before)
@@ -32,7 +32,7 @@ pub record IsRead (o : Opening) (acts : List Act) (harts : List ℕ) (s : Shown)
       → last ≡ readings x.placed harts (scene_at o (to_earlier s.instrument.n course)).core
 
 -- It shows what its plan says, and was read if it was armed.
-pub record IsShown (i : Inputs) (acts : List Act) (s : Shown) (last : ℕ) : Type 0 where
+pub record IsShown (i : Inputs) (acts : List Act) (s : MetricFocusPair) (last : ℕ) : Type 0 where
   pub plan : Plan
   pub planned : planned i s.metric s.focus ≡ Ok plan
   pub good : IsGood i plan
@@ -40,19 +40,19 @@ pub record IsShown (i : Inputs) (acts : List Act) (s : Shown) (last : ℕ) : Typ
   pub number : s.instrument.n < (scene_at (opening_of i) acts).placer.count
   pub armed : (x : Instrument)
       → In x (scene_at (opening_of i) acts).placer.instruments → x.no ≡ s.instrument.n → x.state ≡ Armed → IsSome s.armed
-  pub read : IsSome s.armed → IsRead (opening_of i) acts (harts_of i s.focus) s last
+  pub read : IsSome s.armed → IsRead (opening_of i) acts (harts_of_focus i s.focus) s last
 
-abbrev pub AreShown : Inputs → List Act → List Shown → List ℕ → Type 0
+abbrev pub AreShown : Inputs → List Act → List MetricFocusPair → List ℕ → Type 0
 AreShown i acts [] [] = Unit {0}
 AreShown i acts [] (last ∷ lasts) = ⊥
 AreShown i acts (s ∷ ss) [] = ⊥
 AreShown i acts (s ∷ ss) (last ∷ lasts) = IsShown i acts s last × AreShown i acts ss lasts
 
 -- no two have the same number
-abbrev pub IsOther : Shown → List Shown → Type 0
-IsOther s ss = (t : Shown) → In t ss → t.instrument.n ≡ s.instrument.n → ⊥
+abbrev pub IsOther : MetricFocusPair → List MetricFocusPair → Type 0
+IsOther s ss = (t : MetricFocusPair) → In t ss → t.instrument.n ≡ s.instrument.n → ⊥
 
-abbrev pub AreApart : List Shown → Type 0
+abbrev pub AreApart : List MetricFocusPair → Type 0
 AreApart [] = Unit {0}
 AreApart (s ∷ ss) = IsOther s ss × AreApart ss
 
@@ -60,7 +60,7 @@ AreApart (s ∷ ss) = IsOther s ss × AreApart ss
 
 -- Acts lead from the start of the image to the machine with its instruments; the harts of their ticks are these; and the instruments
 -- show what they must.
-pub record IsTied (i : Inputs) (m : Instrumented) (own : List ℕ) (ss : List Shown) (lasts : List ℕ) : Type 0 where
+pub record IsTied (i : Inputs) (m : Instrumented) (own : List ℕ) (ss : List MetricFocusPair) (lasts : List ℕ) : Type 0 where
   pub program : IsProgram i.image
   pub acts : List Act
   pub plans : List Plan

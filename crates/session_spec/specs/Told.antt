@@ -8,8 +8,8 @@ use Rattle.w3_axes.specs.Refining.{threshold_of}
 use Rattle.w3_axes.specs.Testing.{holds}
 use Rattle.w3_search.specs.declared.node.Node.{Node}
 use Rattle.w3_search.specs.declared.node.NodeState.TheVariants.{Barred, Confirmed, Rejected, Unfinished}
-use Rattle.session_spec.specs.declared.data.Shown.{Shown}
-use Rattle.session_spec.specs.Inputs.{Inputs, harts_of, planned}
+use Rattle.session_spec.specs.declared.data.MetricFocusPair.{MetricFocusPair}
+use Rattle.session_spec.specs.Inputs.{Inputs, harts_of_focus, planned}
 use Rattle.session_spec.specs.Due.{measure_at}
 use Rattle.session_spec.specs.Searches.{metric_of, rules_of}
 use Rattle.session_spec.specs.States.{State}
@@ -27,15 +27,15 @@ pub record IsVerdict (i : Inputs) (owns : List ℕ) (n : Node) : Type 0 where
   pub ordered : n.from < n.to
   pub past : n.to ≤ length owns
   pub window : n.seen ≡ (rules_of i).decl.window
-  pub value : n.value ≡ measure_at i owns plan (harts_of i n.focus) n.from n.from n.to
-  pub ticks : n.ticks ≡ ticks_in owns (harts_of i n.focus) n.from n.to
+  pub value : n.value ≡ measure_at i owns plan (harts_of_focus i n.focus) n.from n.from n.to
+  pub ticks : n.ticks ≡ ticks_in owns (harts_of_focus i n.focus) n.from n.to
   pub verdict : n.state ≡ (if holds n.value n.ticks (threshold_of (rules_of i).hypotheses n.hypothesis) then Confirmed else Rejected)
 
 -- An instrument of its own tested node k. The node's window begins at its arming; as many samples of it were recorded from then on as
 -- the window has, and no more; and the window ends where the last of them does.
 pub record IsTested (i : Inputs) (s : State) (k : ℕ) (n : Node) : Type 0 where
   pub place : ℕ
-  pub x : Shown
+  pub x : MetricFocusPair
   pub samples : List Bin
   pub listed : slice_get s.kept.shown place ≡ Some x
   pub recorded : slice_get s.recorded place ≡ Some samples

@@ -8,19 +8,19 @@ use Rattle.machine.specs.Replays.{owns}
 use Rattle.machine.specs.States.{quantum_turns, settling}
 use Rattle.machine.specs.Turns.{is_runnable}
 use Rattle.w3_search.specs.declared.node.NodeSample.{NodeSample}
-use Rattle.session_spec.specs.declared.data.Latest.{Latest}
-use Rattle.session_spec.specs.declared.data.Shown.{Shown}
+use Rattle.session_spec.specs.declared.data.LatestSample.{LatestSample}
+use Rattle.session_spec.specs.declared.data.MetricFocusPair.{MetricFocusPair}
 use Rattle.session_spec.specs.Inputs.{Inputs}
-use Rattle.session_spec.specs.States.{Kept, State}
+use Rattle.session_spec.specs.States.{SessionState, State}
 use Rattle.session_spec.specs.Admission.{with_admission}
 use Rattle.session_spec.specs.Turns.{with_entries, with_hart, with_quiet}
 use Rattle.session_spec.specs.Due.{latest_from, recorded_with, with_arms, with_frees, with_next, with_samples}
 use Rattle.session_spec.specs.Verdicts.{node_samples, with_search_end, with_verdicts}
-use Rattle.session_spec.specs.Opening.{opened}
+use Rattle.session_spec.specs.Opening.{opening_state}
 
 -- ---- when work is due
 
-abbrev pub is_due : Kept → Bool
+abbrev pub is_due : SessionState → Bool
 is_due k = nat_le k.due k.time
 
 -- ---- the steps of a quantum
@@ -33,7 +33,7 @@ abbrev pub owns_settled : Core → List ℕ
 owns_settled c = owns (settling c) c
 
 -- an instrument that was admitted has no sample yet
-abbrev pub with_room : List Shown → List (List Bin) → List (List Bin)
+abbrev pub with_room : List MetricFocusPair → List (List Bin) → List (List Bin)
 with_room shown rs = rs ++ replicate (length shown - length rs) []
 
 abbrev pub state_admitted : Inputs → State → State
@@ -48,7 +48,7 @@ state_handed s = record s { kept = with_entries s.kept }
 abbrev pub state_quiet : State → State
 state_quiet s = record s { kept = with_quiet s.kept; owns = s.owns ++ owns_settled s.kept.machine.core }
 
-abbrev pub samples_now : Inputs → State → List Latest
+abbrev pub samples_now : Inputs → State → List LatestSample
 samples_now i s = latest_from 0 i s.kept.machine.placer s.owns s.kept.time s.kept.shown
 
 abbrev pub state_sampled : Inputs → State → State
@@ -84,31 +84,31 @@ state_worked i s = if is_due s.kept then state_done i (state_quiet s) else s
 
 -- After a quantum of at most n turns of hart h: an admission, if work was done since the last; the turns; up to eight entries
 -- of the agenda; and the due work, if it is time.
-unfoldable pub tend : Inputs → ℕ → ℕ → State → State
-tend i h n s = state_worked i (state_handed (state_turned h n (state_admitted i s)))
+unfoldable pub after_quantum : Inputs → ℕ → ℕ → State → State
+after_quantum i h n s = state_worked i (state_handed (state_turned h n (state_admitted i s)))
 
 -- ---- lists of quanta
 
 abbrev pub first_state : Inputs → State
-first_state i = record { kept = opened i; owns = []; recorded = map (λ s. []) (opened i).shown; latest = []; feed = [] }
+first_state i = record { kept = opening_state i; owns = []; recorded = map (λ s. []) (opening_state i).shown; latest = []; feed = [] }
 
-abbrev pub work_from : Inputs → List Quantum → State → State
-work_from i [] s = s
-work_from i (q ∷ quanta) s = work_from i quanta (tend i q.hart q.turns s)
+abbrev pub after_quanta_from : Inputs → List Quantum → State → State
+after_quanta_from i [] s = s
+after_quanta_from i (q ∷ quanta) s = after_quanta_from i quanta (after_quantum i q.hart q.turns s)
 
 -- The state of a session after these quanta.
-unfoldable pub work : Inputs → List Quantum → State
-work i quanta = work_from i quanta (first_state i)
+unfoldable pub after_quanta : Inputs → List Quantum → State
+after_quanta i quanta = after_quanta_from i quanta (first_state i)
 
 -- ---- which quanta there may be
 
 -- the entry of a quantum of a hart that a worker asks for: its ticks are those of its turns
-abbrev pub quantum_of : Inputs → ℕ → ℕ → ℕ → Kept → Quantum
+abbrev pub quantum_of : Inputs → ℕ → ℕ → ℕ → SessionState → Quantum
 quantum_of i worker h n k =
     record { worker = worker; hart = h; turns = n; owns = length (owns_taken h n (with_admission i k).machine.core) }
 
 -- the entry is in range, its hart is runnable, and it has the ticks of its turns
-pub record IsAllowed (i : Inputs) (k : Kept) (q : Quantum) : Type 0 where
+pub record IsAllowed (i : Inputs) (k : SessionState) (q : Quantum) : Type 0 where
   pub worker : q.worker < MAX_WORKERS
   pub hart : q.hart < i.settings.harts
   pub some : 1 ≤ q.turns
@@ -118,7 +118,7 @@ pub record IsAllowed (i : Inputs) (k : Kept) (q : Quantum) : Type 0 where
 
 abbrev pub AreAllowedFrom : Inputs → State → List Quantum → Type 0
 AreAllowedFrom i s [] = Unit {0}
-AreAllowedFrom i s (q ∷ quanta) = IsAllowed i s.kept q × AreAllowedFrom i (tend i q.hart q.turns s) quanta
+AreAllowedFrom i s (q ∷ quanta) = IsAllowed i s.kept q × AreAllowedFrom i (after_quantum i q.hart q.turns s) quanta
 
 -- each entry is allowed when it comes, and there aren't too many
 pub record AreAllowed (i : Inputs) (quanta : List Quantum) : Type 0 where
@@ -127,7 +127,7 @@ pub record AreAllowed (i : Inputs) (quanta : List Quantum) : Type 0 where
 
 -- No quantum of hart h can follow: it isn't runnable, or there are as many quanta as there may be.
 unfoldable pub Halted : Inputs → List Quantum → ℕ → Type 0
-Halted i quanta h = (is_runnable (work i quanta).kept.machine.core h ≡ false) ⊎ (MAX_QUANTA ≤ length quanta)
+Halted i quanta h = (is_runnable (after_quanta i quanta).kept.machine.core h ≡ false) ⊎ (MAX_QUANTA ≤ length quanta)
 
 -- A whole list: allowed, and none can follow.
 pub record IsWhole (i : Inputs) (quanta : List Quantum) : Type 0 where
@@ -144,6 +144,6 @@ state_ended s = record s { kept = with_search_end s.kept }
 
 -- The closed form: the machine settles, and where time passed since the last sample, all that is armed is sampled once more, and
 -- the search judges. Then the search ends.
-unfoldable pub closed : Inputs → State → State
-closed i s =
+unfoldable pub final_state : Inputs → State → State
+final_state i s =
     state_ended (if nat_lt (state_quiet s).kept.last (state_quiet s).kept.time then state_last i (state_quiet s) else state_quiet s)

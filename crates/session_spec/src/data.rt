@@ -5,7 +5,7 @@ use pn_types::{Focus, PickCause};
 
 /// An instrument that shows or showed a metric at a focus: to the user, or to the search, which tests a node by it.
 #[derive(Drop)]
-pub struct Shown {
+pub struct MetricFocusPair {
     /// The instrument.
     pub instrument: InstrumentNo,
     /// The number of the node that is tested by it. None where it was wished.
@@ -37,7 +37,7 @@ pub struct RefusedWish {
 
 /// A sample of an instrument that was wished.
 #[derive(Clone, Copy, PartialEq, Eq, Drop)]
-pub struct Latest {
+pub struct LatestSample {
     /// The place of the instrument among all that were wished, from 0.
     pub shown: u32,
     /// The time at which its interval begins.

@@ -4,7 +4,7 @@ ghost use Rattle.std.specs.Prelude.{◌≡◌, IfOk};
 
 use crate::comparison::compare;
 use pn_types::NoMemory;
-use session_spec::Latest;
+use session_spec::LatestSample;
 use std::alloc::Global;
 use std::sync::Wait;
 use std::sync::atomic::{AtomicU64, Ordering};
@@ -12,8 +12,8 @@ use std::thread;
 use std::thread::Threads;
 use visi_run::{Publisher, Reading, View, gather, gauge, streams};
 
-fn item(n: u64) -> Latest {
-    Latest {
+fn item(n: u64) -> LatestSample {
+    LatestSample {
         shown: 0,
         from: n,
         to: n,

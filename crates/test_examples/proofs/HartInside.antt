@@ -15,7 +15,7 @@ use Rattle.tramp_spec.specs.MovedWords.{moved_of}
 use Rattle.tramp_spec.specs.Statements.{body_of}
 use Rattle.tramp_spec.specs.Steps.{perform_on}
 use Rattle.machine.specs.Cores.{Core, Row, Written, Live, In, first_hart, start_core}
-use Rattle.machine.specs.Effects.{after}
+use Rattle.machine.specs.Effects.{after_event}
 use Rattle.machine.specs.Events.{Write, LinkMini, MayWrite, MayLinkMini, MayLinkPoint, MayArm, IsLinked, IsQuiet, Apart, target_at}
 use Rattle.test_examples.specs.FirstTurns.{three_words, first_base, first_mini, turns}
 use Rattle.test_examples.specs.HartInside.{three_image, first_counter, first_linked, inside, settled, HartInside}
@@ -61,7 +61,7 @@ writes_base = record {
   apart = λ r h. absurd h;
 }
 
-writes_mini : MayWrite (after start_at (Write first_base)) first_mini
+writes_mini : MayWrite (after_event start_at (Write first_base)) first_mini
 unfolding body_of
 writes_mini = record {
   shape = (0x11008, record { aligned = refl; body = body_of (2 ∷ []) count_up; harmless = harmless 2 (omega arith) (omega arith); reached = refl; is = refl });
@@ -71,7 +71,7 @@ writes_mini = record {
 }
 
 abbrev written : Core
-written = after (after start_at (Write first_base)) (Write first_mini)
+written = after_event (after_event start_at (Write first_base)) (Write first_mini)
 
 links_mini : MayLinkMini written 0x10000 0x11014
 unfolding body_of decode_of
@@ -85,7 +85,7 @@ links_mini =
       next = ap (λ o. target_at o 0x11024) next ∙ sym (ap (λ o. target_at o 0x11004) head);
     }
 
-links_point : MayLinkPoint (after written (LinkMini 0x10000 0x11014)) 0x10000
+links_point : MayLinkPoint (after_event written (LinkMini 0x10000 0x11014)) 0x10000
 unfolding body_of decode_of
 links_point = record {
   base = record { point = 0x10000; at = 0x11000; len = 5; base = true; status = Written };

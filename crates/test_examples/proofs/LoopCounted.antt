@@ -17,7 +17,7 @@ use Rattle.tramp_spec.specs.Steps.{perform_on}
 use Rattle.frame_walk.specs.Walks.{walk}
 use Rattle.frame_walk.proofs.Waits.{cold_begins}
 use Rattle.machine.specs.Cores.{Core, Row, Live, In, first_hart}
-use Rattle.machine.specs.Effects.{after, owned}
+use Rattle.machine.specs.Effects.{after_event, owned}
 use Rattle.machine.specs.Events.{Event, Turn, Arm, May, MayArm, HasMini, IsEntered, IsQuiet}
 use Rattle.machine.specs.Instruments.{Carries, InForce, IsSpared, AllLet, body_in}
 use Rattle.machine.specs.Measures.{difference, level, measure}
@@ -154,15 +154,15 @@ bank_so : replicate bank_len 0 ≡ 0 ∷ 0 ∷ 0 ∷ rest
 unfolding rest
 bank_so = ap (λ n. replicate n 0) bank_is.1
 
-armed_so : after (linked 1000) (Arm counter) ≡ with_bank (replicate bank_len 0)
+armed_so : after_event (linked 1000) (Arm counter) ≡ with_bank (replicate bank_len 0)
 unfolding body_of
 armed_so = ap (λ (x : Hart). record (linked 1000) { harts = x ∷ [] }) (armed_cold (linked 1000) counter (first_hart (start_hart loop 1 0)) refl)
 
-begins : after (linked 1000) (Arm counter) ≡ core linked_code (start loop 1).prog (hart rest 0x10000 0 0 false 0 0)
+begins : after_event (linked 1000) (Arm counter) ≡ core linked_code (start loop 1).prog (hart rest 0x10000 0 0 false 0 0)
 unfolding with_reg
 begins = armed_so ∙ ap with_bank bank_so
 
-run : Run (replicate 30 (Turn 0)) (after (linked 1000) (Arm counter)) (core linked_code (start loop 1).prog (hart rest 0x10000 0 3 false 0 3)) (0 ∷ 0 ∷ 0 ∷ [])
+run : Run (replicate 30 (Turn 0)) (after_event (linked 1000) (Arm counter)) (core linked_code (start loop 1).prog (hart rest 0x10000 0 3 false 0 3)) (0 ∷ 0 ∷ 0 ∷ [])
 run = subst (λ c. Run (replicate 30 (Turn 0)) c (core linked_code (start loop 1).prog (hart rest 0x10000 0 3 false 0 3)) (0 ∷ 0 ∷ 0 ∷ [])) (sym begins) (three linked_code stand (start loop 1).prog rest)
 
 outside : (n : ℕ) → IsQuiet (core linked_code (start loop 1).prog (hart rest 0x10000 0 n false 0 n))

@@ -12,7 +12,7 @@ use Rattle.tramp_spec.specs.Slots.{VariableSlot, width, ArePlaces, places_of}
 use Rattle.tramp_spec.specs.Statements.{body_of}
 use Rattle.prim_code.proofs.Whole.{statements_work}
 use Rattle.machine.specs.Cores.{Core, Row, Written, Live}
-use Rattle.machine.specs.Effects.{after}
+use Rattle.machine.specs.Effects.{after_event}
 use Rattle.machine.specs.Events.{Write, LinkMini, Apart, target_at, MayWrite, MayLinkMini, MayLinkPoint}
 use Rattle.machine.specs.Laws.{IsProgram}
 use Rattle.test_examples.specs.LoopCounted.{loop, loop_core, count_up, rounds, counter, loop_base, loop_mini, linking}
@@ -87,7 +87,7 @@ writes_base budget = record {
   apart = λ r h. absurd h;
 }
 
-writes_mini : (budget : ℕ) → MayWrite (after (loop_core budget) (Write loop_base)) loop_mini
+writes_mini : (budget : ℕ) → MayWrite (after_event (loop_core budget) (Write loop_base)) loop_mini
 unfolding body_of
 writes_mini budget = record {
   shape = (0x11008, record { aligned = refl; body = body_of (2 ∷ []) count_up; harmless = (statements_work (2 ∷ []) counter.vars count_up refl places (measurable.fitting).0).harmless; reached = refl; is = refl });
@@ -98,7 +98,7 @@ writes_mini budget = record {
 
 -- both written
 abbrev written : ℕ → Core
-written budget = after (after (loop_core budget) (Write loop_base)) (Write loop_mini)
+written budget = after_event (after_event (loop_core budget) (Write loop_base)) (Write loop_mini)
 
 links_mini : (budget : ℕ) → MayLinkMini (written budget) 0x10000 0x11010
 unfolding body_of decode_of
@@ -113,7 +113,7 @@ links_mini budget =
     }
 
 abbrev chained : ℕ → Core
-chained budget = after (written budget) (LinkMini 0x10000 0x11010)
+chained budget = after_event (written budget) (LinkMini 0x10000 0x11010)
 
 links_point : (budget : ℕ) → MayLinkPoint (chained budget) 0x10000
 unfolding body_of decode_of

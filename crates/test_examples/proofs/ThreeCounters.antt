@@ -12,7 +12,7 @@ use Rattle.tramp_spec.specs.Jumps.{jump_word}
 use Rattle.tramp_spec.specs.Marks.{own, tool}
 use Rattle.tramp_spec.specs.Statements.{body_of}
 use Rattle.machine.specs.Cores.{Core, Row, Status, Written, Live, Retired, In}
-use Rattle.machine.specs.Effects.{after, armed, mini_unlinked}
+use Rattle.machine.specs.Effects.{after_event, armed_hart, mini_unlinked}
 use Rattle.machine.specs.Events.{UnlinkMini, UnlinkPoint, Free, Arm, May, MayArm, HasMini, IsLinked, IsQuiet, before, target_at}
 use Rattle.machine.specs.Places.{holds}
 use Rattle.test_examples.specs.FirstTurns.{turns}
@@ -46,7 +46,7 @@ arms code rows x slot mini head f t o i s = record { quiet = quiet_at code rows 
     sites z (inr h) = absurd h
 
 -- the counter's slot is 0
-arms_so : (code : Code) (rows : List Row) (x : Hart) (slot mini : ℕ) → after (at code rows x) (Arm (counter_on slot mini)) ≡ at code rows (record x { bank = slice_set x.bank slot 0 })
+arms_so : (code : Code) (rows : List Row) (x : Hart) (slot mini : ℕ) → after_event (at code rows x) (Arm (counter_on slot mini)) ≡ at code rows (record x { bank = slice_set x.bank slot 0 })
 arms_so code rows x slot mini = ap (at code rows) (armed_cold (at code rows x) (counter_on slot mini) x refl)
 
 -- with this many slots set to 0
@@ -77,8 +77,8 @@ begins = refl
 
 arming_legal : Legal arming (at three_code (rows_third Live) unarmed)
 arming_legal =
-    let armed_first = armed (at three_code (rows_third Live) unarmed) first unarmed in
-    let armed_second = armed (at three_code (rows_third Live) armed_first) second armed_first in (
+    let armed_first = armed_hart (at three_code (rows_third Live) unarmed) first unarmed in
+    let armed_second = armed_hart (at three_code (rows_third Live) armed_first) second armed_first in (
       arms three_code (rows_third Live) unarmed 2 0x11010 0x0340006f 0xfe9ff06f 0xfddff06f refl (inr (inl refl)) three,
       (
         arms three_code (rows_third Live) armed_first 3 0x11024 0x0340006f 0xfe9ff06f 0xfddff06f refl (inr (inr (inl refl))) three,
@@ -106,7 +106,7 @@ module _ (x : Hart) where
   unfolding decode_of
   holder_of_second = rw three.base.1.0 (rw three.on_2.1.1.1.1.0 (rw three.on_3.1.1.1.1.0 (rw three.on_4.1.1.1.1.0 refl)))
 
-  passes_second : after (at three_code (rows_passed Live Live) x) (UnlinkMini 0x10000 0x11024) ≡ at past_second (rows_passed Live Retired) x
+  passes_second : after_event (at three_code (rows_passed Live Live) x) (UnlinkMini 0x10000 0x11024) ≡ at past_second (rows_passed Live Retired) x
   unfolding decode_of
   passes_second =
       ap (λ o. mini_unlinked o (Some (row 0x11024 Live)) 0x11024 (at three_code (rows_passed Live Live) x)) holder_of_second
@@ -116,14 +116,14 @@ module _ (x : Hart) where
   unfolding decode_of
   holder_of_first = let s = three_past_second in rw s.base.1.0 (rw s.on_2.1.1.1.1.0 (rw s.on_4.1.1.1.1.0 refl))
 
-  passes_first : after (at past_second (rows_passed Live Retired) x) (UnlinkMini 0x10000 0x11010) ≡ at past_both (rows_passed Retired Retired) x
+  passes_first : after_event (at past_second (rows_passed Live Retired) x) (UnlinkMini 0x10000 0x11010) ≡ at past_both (rows_passed Retired Retired) x
   unfolding decode_of
   passes_first =
       ap (λ o. mini_unlinked o (Some (row 0x11010 Live)) 0x11010 (at past_second (rows_passed Live Retired) x)) holder_of_first
       ∙ ap (λ o. at (insert past_second 0x11048 (tool (jump_word 0x11048 (target_at o 0x11020)))) (rows_passed Retired Retired) x) three_past_second.on_2.1.1.1.1.0
 
   passes_both : replay passing_by (at three_code (rows_passed Live Live) x) ≡ at past_both (rows_passed Retired Retired) x
-  passes_both = ap (λ c. after c (UnlinkMini 0x10000 0x11010)) passes_second ∙ passes_first
+  passes_both = ap (λ c. after_event c (UnlinkMini 0x10000 0x11010)) passes_second ∙ passes_first
 
   has_mini : (code : Code) (rows : List Row) (mini : ℕ) → In (row mini Live) rows → HasMini (at code rows x) 0x10000 mini Live
   has_mini code rows mini i = record { row = row mini Live; listed = i; mini = refl; point = refl; at = refl; is = refl }

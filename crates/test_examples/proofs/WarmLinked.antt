@@ -14,7 +14,7 @@ use Rattle.tramp_spec.specs.declared.mark.MarkedWord.{MarkedWord}
 use Rattle.prim_code.specs.Fitting.{IsMeasurable}
 use Rattle.prim_code.proofs.Whole.{statements_work}
 use Rattle.machine.specs.Cores.{Core, Row, Status, Written, Live}
-use Rattle.machine.specs.Effects.{after}
+use Rattle.machine.specs.Effects.{after_event}
 use Rattle.machine.specs.Events.{Write, LinkMini, Apart, target_at, MayWrite, MayLinkMini, MayLinkPoint}
 use Rattle.machine.specs.Instruments.{body_in, words_at}
 use Rattle.machine.specs.Laws.{IsProgram}
@@ -100,7 +100,7 @@ writes_base = record {
   apart = λ r h. absurd h;
 }
 
-writes_mini : MayWrite (after two_harts (Write timer_base)) timer_mini
+writes_mini : MayWrite (after_event two_harts (Write timer_base)) timer_mini
 unfolding body_of
 writes_mini = record {
   shape = (0x11008, record { aligned = refl; body = body_of timer.slots stop_if_off; harmless = (statements_work timer.slots timer.vars stop_if_off refl places (measurable.fitting).0).harmless; reached = refl; is = refl });
@@ -111,7 +111,7 @@ writes_mini = record {
 
 -- both written
 abbrev written : Core
-written = after (after two_harts (Write timer_base)) (Write timer_mini)
+written = after_event (after_event two_harts (Write timer_base)) (Write timer_mini)
 
 links_mini : MayLinkMini written 0x10004 0x11010
 unfolding body_of decode_of
@@ -125,7 +125,7 @@ links_mini =
       next = ap (λ o. target_at o 0x11054) next ∙ sym (ap (λ o. target_at o 0x11004) head);
     }
 
-links_point : MayLinkPoint (after written (LinkMini 0x10004 0x11010)) 0x10004
+links_point : MayLinkPoint (after_event written (LinkMini 0x10004 0x11010)) 0x10004
 unfolding body_of decode_of
 links_point = record {
   base = base_row Written;
@@ -164,7 +164,7 @@ pub mini_stands : Stands linked_code 0x11010 timer_mini.words
 unfolding body_of
 mini_stands =
     stands_other chained 0x10004 (enter 0x7fd0006f) 0x11010 timer_mini.words (inl (omega arith))
-    (stands_other written.code 0x11004 (tool 0x00c0006f) 0x11010 timer_mini.words (inl (omega arith)) (put_words_stand 0x11010 timer_mini.words (after two_harts (Write timer_base)).code))
+    (stands_other written.code 0x11004 (tool 0x00c0006f) 0x11010 timer_mini.words (inl (omega arith)) (put_words_stand 0x11010 timer_mini.words (after_event two_harts (Write timer_base)).code))
 
 pub stand : Stand linked_code
 unfolding body_of decode_of

@@ -14,7 +14,7 @@ use Rattle.tramp_spec.specs.Slots.{places_of, set_places}
 use Rattle.tramp_spec.specs.Statements.{body_of}
 use Rattle.tramp_spec.specs.Steps.{perform_on}
 use Rattle.machine.specs.Cores.{Core, Row, Live, In, first_hart}
-use Rattle.machine.specs.Effects.{armed}
+use Rattle.machine.specs.Effects.{armed_hart}
 use Rattle.machine.specs.Events.{Event, Turn, Arm, MayArm, IsLinked, IsQuiet}
 use Rattle.machine.specs.Instruments.{Carries, InForce, IsSpared, AllLet}
 use Rattle.frame_walk.specs.Openings.{opening}
@@ -68,7 +68,7 @@ bank_so : set_slots (replicate bank_len 0) ≡ 0 ∷ 0 ∷ 0 ∷ 1 ∷ 1 ∷ res
 unfolding rest
 bank_so = ap (λ n. set_slots (replicate n 0)) bank_five.1
 
-armed_so : (h : ℕ) → armed linked timer (first_hart (start_hart procedure 2 h)) ≡ hart h 0
+armed_so : (h : ℕ) → armed_hart linked timer (first_hart (start_hart procedure 2 h)) ≡ hart h 0
 armed_so h =
     ap (λ values. with_bank (set_places (places_of timer) values 0 (replicate bank_len 0)) h 0) (opens_so h) ∙ ap (λ bank. with_bank bank h 0) bank_so
 
@@ -77,7 +77,7 @@ begun = with_harts (hart 0 0 ∷ hart 1 0 ∷ [])
 
 begins : replay timing two_harts ≡ begun
 unfolding body_of
-begins = ap (λ x. with_harts (x ∷ armed linked timer (first_hart (start_hart procedure 2 1)) ∷ [])) (armed_so 0) ∙ ap (λ x. with_harts (hart 0 0 ∷ x ∷ [])) (armed_so 1)
+begins = ap (λ x. with_harts (x ∷ armed_hart linked timer (first_hart (start_hart procedure 2 1)) ∷ [])) (armed_so 0) ∙ ap (λ x. with_harts (hart 0 0 ∷ x ∷ [])) (armed_so 1)
 
 arms : MayArm linked timer
 unfolding body_of

@@ -3,7 +3,7 @@ use Rattle.std.proofs.Common.{◌≡◌, ℕ, ◌-◌, ◌++◌, [], ◌∷◌, 
 use Rattle.pn_types.specs.declared.placed.Placed.{Placed}
 use Rattle.tramp_spec.specs.declared.block.Block.{Block}
 use Rattle.machine.specs.Cores.{Core}
-use Rattle.machine.specs.Effects.{after}
+use Rattle.machine.specs.Effects.{after_event}
 use Rattle.machine.specs.Events.{Arm, May}
 use Rattle.test_examples.specs.LoopCounted.{loop_core, linking, counter}
 use Rattle.machine.specs.Replays.{Legal, replay}
@@ -37,9 +37,9 @@ added_so mini y m n c room em e h =
 pub arm_legal : (i j : Placed) (m : Machine) (c : Core) (room : ℕ) → i ≡ j → m ≡ record { core = c; room = room } → May c (Arm j) → May m.core (Arm i)
 arm_legal i j m c room ei e l = subst (λ k. May m.core (Arm k)) (sym ei) (subst (λ (k : Machine). May k.core (Arm j)) (sym e) l)
 
-pub armed_so : (i j : Placed) (m n : Machine) (c : Core) (room : ℕ) → i ≡ j → m ≡ record { core = c; room = room } → n ≡ record { core = after m.core (Arm i); room = m.room } → n ≡ record { core = after c (Arm j); room = room }
+pub armed_so : (i j : Placed) (m n : Machine) (c : Core) (room : ℕ) → i ≡ j → m ≡ record { core = c; room = room } → n ≡ record { core = after_event m.core (Arm i); room = m.room } → n ≡ record { core = after_event c (Arm j); room = room }
 armed_so i j m n c room ei e h =
-    h ∙ ap (λ k. record { core = after m.core (Arm k); room = m.room }) ei ∙ ap (λ (k : Machine). record { core = after k.core (Arm j); room = k.room }) e
+    h ∙ ap (λ k. record { core = after_event m.core (Arm k); room = m.room }) ei ∙ ap (λ (k : Machine). record { core = after_event k.core (Arm j); room = k.room }) e
 
 -- ---- the loop
 

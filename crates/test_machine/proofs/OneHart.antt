@@ -2,7 +2,7 @@
 use Rattle.std.proofs.Common.{◌≡◌, ℕ, List, [], ◌∷◌, ◌++◌, length, Option, Some, None, refl, ap, ◌∙◌}
 use Rattle.std.proofs.lemmas.List.{length-map}
 use Rattle.machine.specs.Cores.{Core, Row, start_core}
-use Rattle.machine.specs.Effects.{after, armed, mini_linked, mini_unlinked, point_linked, point_unlinked}
+use Rattle.machine.specs.Effects.{after_event, armed_hart, mini_linked, mini_unlinked, point_linked, point_unlinked}
 use Rattle.machine.specs.Events.{Event, Turn, Write, LinkMini, UnlinkMini, LinkPoint, UnlinkPoint, Free, Arm, Sample, current_base, row_at, before}
 use Rattle.machine.specs.Replays.{replay}
 use Rattle.machine.specs.States.{Machine}
@@ -30,7 +30,7 @@ point_unlinked_len : (word : Option ℕ) (p : ℕ) (c : Core) → length (point_
 point_unlinked_len None p c = refl
 point_unlinked_len (Some word) p c = refl
 
-pub after_len : (c : Core) (e : Event) → length (after c e).harts ≡ length c.harts
+pub after_len : (c : Core) (e : Event) → length (after_event c e).harts ≡ length c.harts
 after_len c (Turn h) = turn_len c h
 after_len c (Write block) = refl
 after_len c (LinkMini p m) = mini_linked_len (current_base c.rows p) m c
@@ -38,12 +38,12 @@ after_len c (UnlinkMini p m) = mini_unlinked_len (before c m) (row_at c.rows m) 
 after_len c (LinkPoint p) = point_linked_len (current_base c.rows p) p c
 after_len c (UnlinkPoint p) = point_unlinked_len (program_word c.program p) p c
 after_len c (Free p) = refl
-after_len c (Arm i) = length-map c.harts (armed c i)
+after_len c (Arm i) = length-map c.harts (armed_hart c i)
 after_len c (Sample i) = refl
 
 pub replay_len : (es : List Event) (c : Core) → length (replay es c).harts ≡ length c.harts
 replay_len [] c = refl
-replay_len (e ∷ es) c = replay_len es (after c e) ∙ after_len c e
+replay_len (e ∷ es) c = replay_len es (after_event c e) ∙ after_len c e
 
 -- ---- the machines
 

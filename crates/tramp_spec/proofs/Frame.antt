@@ -9,7 +9,7 @@ use Rattle.rv_word.specs.InstrRegisters.{registers_of}
 use Rattle.rv_word.specs.Names.{is_register, names, has_scratch}
 use Rattle.rv_word.specs.Table.{decode_of}
 use Rattle.rv_word.specs.Values.{load_len, loaded, atomic_len, left_by, answered}
-use Rattle.rv_word.specs.Exec.{Prog, Outcome, Stops, Goes, operand, action, asked, or_stop, next, jump_to, without_reservation, conditional, atomic, perform, written, written_is, system_call, exec_instr, exec_decoded, exec_of, answers, minus}
+use Rattle.rv_word.specs.Exec.{Prog, Outcome, Stops, Goes, operand, action, asked, or_stop, next, jump_to, without_reservation, conditional, atomic, perform, outcome_of_write, written_is, system_call, exec_instr, exec_decoded, exec_of, answers, minus}
 use Rattle.rv_word.specs.declared.outcome.MemStop.{MemStop}
 use Rattle.rv_word.specs.declared.outcome.Cause.TheVariants.{Exit, Misaligned}
 use Rattle.rv_word.specs.declared.instr.AtomicWidth.{AtomicWidth}
@@ -65,7 +65,7 @@ module _ (R : ℕ → ℕ → Type 0) (pc qc : ℕ) (n : R (next pc) (next qc)) 
   conditionals false h n rd at v a b p s = goes_with rd 1 a b _ s
   conditionals true h n rd at v a b p s = or_stops (store n p.mem at v) p _ _ (λ m. goes_with rd 0 a b _ s)
 
-  writes : (r : Result ℕ ℕ) (out : List ℕ) (a b : List ℕ) (p : Prog) → Alike a b → SameOutcome R (written (r, out) pc a p) (written (r, out) qc b p)
+  writes : (r : Result ℕ ℕ) (out : List ℕ) (a b : List ℕ) (p : Prog) → Alike a b → SameOutcome R (outcome_of_write (r, out) pc a p) (outcome_of_write (r, out) qc b p)
   writes (Ok answer) out a b p s = goes_with 10 answer a b _ s
   writes (Err e) out a b p s = (refl, refl)
 
@@ -74,7 +74,7 @@ module _ (R : ℕ → ℕ → Type 0) (pc qc : ℕ) (n : R (next pc) (next qc)) 
   call_by n fd from len at regs p =
       cond ((n == 93) || (n == 94)) (Stops (Exit (fd % 256)) p)
       (cond (n == 64)
-      (cond ((fd == 1) || (fd == 2)) (written (written_is (bytes_at (min len 4096) p.mem from) p.out) at regs p) (answers (minus 9) at regs p))
+      (cond ((fd == 1) || (fd == 2)) (outcome_of_write (written_is (bytes_at (min len 4096) p.mem from) p.out) at regs p) (answers (minus 9) at regs p))
       (answers (minus 38) at regs p))
 
   calls_by : (n fd from len : ℕ) (a b : List ℕ) (p : Prog) → Alike a b → SameOutcome R (call_by n fd from len pc a p) (call_by n fd from len qc b p)

@@ -2,7 +2,7 @@
 use Rattle.std.proofs.Common.{◌≡◌, ℕ, zero, suc, ◌+◌, ◌*◌, List, [], ◌∷◌, ◌++◌, length, refl, sym, ap, ◌∙◌, subst, arith, inl, inr, length-append}
 use Rattle.std.specs.Prelude.{slice_index, ◌⊎◌}
 use Rattle.tramp_spec.specs.Steps.{Bench}
-use Rattle.tramp_spec.specs.Bodies.{AreTool, Safe, Stands, Harmless, LeavesSlot, finished}
+use Rattle.tramp_spec.specs.Bodies.{AreTool, Safe, Stands, Harmless, LeavesSlot, bank_at_end}
 use Rattle.tramp_spec.specs.Routes.{Route, Guards, BodiesGoOn}
 use Rattle.tramp_spec.specs.declared.mark.MarkedWord.{MarkedWord}
 use Rattle.tramp_spec.proofs.Routes.{keeps, safe_of, finish_of, and_on, left, right}
@@ -32,7 +32,7 @@ stands_right a b at ticks x z s r =
 record Through (a b : List MarkedWord) (at ticks : ℕ) (x z : Bench) : Type 0 where
   y : Bench
   route : Route (a ++ b) at ticks 0 (length (a ++ b)) x y
-  finish : finished b (at + 4 * length a) z ticks ≡ y.bank
+  finish : bank_at_end b (at + 4 * length a) z ticks ≡ y.bank
 
 through : (a b : List MarkedWord) → Harmless b → (at ticks : ℕ) (x z : Bench) → Stands (a ++ b) at x → Route (a ++ b) at ticks 0 (length a) x z → Through a b at ticks x z
 through a b h at ticks x z s r =
@@ -44,7 +44,7 @@ through a b h at ticks x z s r =
     let to = subst (λ m. Route (a ++ b) at ticks (length a) m z q.0) (sym n) on in
     record { y = q.0; route = and_on (a ++ b) at ticks 0 (length a) (length (a ++ b)) x z q.0 r to; finish = finish_of b (at + 4 * length a) ticks z q.0 q.1 }
 
-first : (a b : List MarkedWord) → Harmless a → (at ticks : ℕ) (x : Bench) → Stands (a ++ b) at x → (z : Bench) × Route (a ++ b) at ticks 0 (length a) x z × (finished a at x ticks ≡ z.bank)
+first : (a b : List MarkedWord) → Harmless a → (at ticks : ℕ) (x : Bench) → Stands (a ++ b) at x → (z : Bench) × Route (a ++ b) at ticks 0 (length a) x z × (bank_at_end a at x ticks ≡ z.bank)
 first a b h at ticks x s =
     let q = ends a h at ticks x (stands_left a b at x s) in
     (q.0, left a b at ticks 0 (length a) x q.0 q.1, finish_of a at ticks x q.0 q.1)
@@ -86,7 +86,7 @@ guard g rest gs h =
     }
 
 guard_slot : (g rest : List MarkedWord) (slot at ticks : ℕ) (x y : Bench) → Harmless rest → LeavesSlot rest slot → Stands (g ++ rest) at x → y.bank ≡ x.bank
-    → Route (g ++ rest) at ticks 0 (length g) x y ⊎ Route (g ++ rest) at ticks 0 (length (g ++ rest)) x y → slice_index (finished (g ++ rest) at x ticks) slot ≡ slice_index x.bank slot
+    → Route (g ++ rest) at ticks 0 (length g) x y ⊎ Route (g ++ rest) at ticks 0 (length (g ++ rest)) x y → slice_index (bank_at_end (g ++ rest) at x ticks) slot ≡ slice_index x.bank slot
 guard_slot g rest slot at ticks x y h l s e (inl r) =
     let t = through g rest h at ticks x y s r in
     ap (λ k. slice_index k slot) (finish_of (g ++ rest) at ticks x t.y t.route)

@@ -6,7 +6,7 @@ use Rattle.rv_word.specs.Registers.{reg}
 use Rattle.rv_word.specs.Names.{names}
 use Rattle.rv_word.specs.Table.{decode_of}
 use Rattle.rv_word.specs.Words.{word_of}
-use Rattle.rv_word.specs.Values.{wrap, taken}
+use Rattle.rv_word.specs.Values.{wrap, is_branch_taken}
 use Rattle.rv_word.specs.Exec.{Prog, Outcome, Goes, action, next, jump_to, perform, exec_decoded, exec_of}
 use Rattle.rv_word.specs.declared.instr.BranchOp.{BranchOp}
 use Rattle.rv_word.specs.declared.instr.Instr.TheVariants.{Branch}
@@ -39,7 +39,7 @@ module _ (point to : ℕ) (pa : point % 4 ≡ 0) (ta : to % 4 ≡ 0) (lo : point
     branch_leaves (suc (suc (suc j))) l m = absurd (omega arith)
 
     abbrev branches : Bool → ℕ → ℕ → List ℕ → Prog → Outcome
-    branches taken at target regs p = cond taken (jump_to target regs p) (Goes (next at) regs p)
+    branches is_branch_taken at target regs p = cond is_branch_taken (jump_to target regs p) (Goes (next at) regs p)
 
     branch_by : (t : Bool) (regs others : List ℕ) (p : Prog) → Alike regs others
         → SameStep false 0 to branch_words (branches t (to + 4 * 0) (wrap (to + 4 * 0 + 8)) regs p) (branches t point (wrap (point + offset)) others p)
@@ -54,7 +54,7 @@ module _ (point to : ℕ) (pa : point % 4 ≡ 0) (ta : to % 4 ≡ 0) (lo : point
         let there : next (to + 4 * 0) ≡ to + 4 * 1 = omega arith in
         (refl, s, inr (refl, 1, jump_word (to + 4) (point + 4), omega arith, omega arith, there, refl, target_is (to + 4 * 1) (point + 4) (jump_word (to + 4) (point + 4)) (back point to pa ta lo be near 1 (omega arith)) ∙ ap (λ a. Some a) (sym (next_point point lo))))
 
-    branch_execs : (by at h : ℕ) (regs : List ℕ) (p : Prog) → exec_decoded (Some (Branch op rs1 rs2 by)) at h regs p ≡ branches (taken op (reg regs rs1) (reg regs rs2)) at (wrap (at + by)) regs p
+    branch_execs : (by at h : ℕ) (regs : List ℕ) (p : Prog) → exec_decoded (Some (Branch op rs1 rs2 by)) at h regs p ≡ branches (is_branch_taken op (reg regs rs1) (reg regs rs2)) at (wrap (at + by)) regs p
     unfolding action perform
     branch_execs by at h regs p = refl
 
@@ -64,14 +64,14 @@ module _ (point to : ℕ) (pa : point % 4 ≡ 0) (ta : to % 4 ≡ 0) (lo : point
         let low = branch_low word op rs1 rs2 offset e in
         let one : rs1 ≢ 31 = grind (arith, common_steps) in
         let two : rs2 ≢ 31 = grind (arith, common_steps) in
-        let t : taken op (reg regs rs1) (reg regs rs2) ≡ taken op (reg others rs1) (reg others rs2) =
-        ap (λ a. taken op a (reg regs rs2)) (agree_but regs others rs1 s.first s.second s.agree one) ∙ ap (λ b. taken op (reg others rs1) b) (agree_but regs others rs2 s.first s.second s.agree two) in
+        let t : is_branch_taken op (reg regs rs1) (reg regs rs2) ≡ is_branch_taken op (reg others rs1) (reg others rs2) =
+        ap (λ a. is_branch_taken op a (reg regs rs2)) (agree_but regs others rs1 s.first s.second s.agree one) ∙ ap (λ b. is_branch_taken op (reg others rs1) b) (agree_but regs others rs2 s.first s.second s.agree two) in
         let x = ap (λ o. exec_decoded o (to + 4 * 0) h regs p) (branch_reads op rs1 rs2 low.0 low.1)
         ∙ (branch_execs 8 (to + 4 * 0) h regs p ∙ ap (λ b. branches b (to + 4 * 0) (wrap (to + 4 * 0 + 8)) regs p) t) in
         let y = ap (λ o. exec_decoded o point h others p) e ∙ branch_execs offset point h others p in
         subst (λ a. SameStep false 0 to branch_words a (exec_of word point h others p)) (sym x)
-        (subst (λ b. SameStep false 0 to branch_words (branches (taken op (reg others rs1) (reg others rs2)) (to + 4 * 0) (wrap (to + 4 * 0 + 8)) regs p) b) (sym y)
-        (branch_by (taken op (reg others rs1) (reg others rs2)) regs others p s))
+        (subst (λ b. SameStep false 0 to branch_words (branches (is_branch_taken op (reg others rs1) (reg others rs2)) (to + 4 * 0) (wrap (to + 4 * 0 + 8)) regs p) b) (sym y)
+        (branch_by (is_branch_taken op (reg others rs1) (reg others rs2)) regs others p s))
 
     pub branch_moves : (r : ℕ → Option ℕ) → MovesBy 0 r false word point to branch_words
     branch_moves r =

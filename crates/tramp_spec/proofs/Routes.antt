@@ -6,8 +6,8 @@ use Rattle.rv_word.specs.Registers.{arguments_of}
 use Rattle.tramp_spec.specs.Banks.{bank_len}
 use Rattle.tramp_spec.specs.Marks.{tool}
 use Rattle.tramp_spec.specs.Steps.{Bench, stand, step_on}
-use Rattle.tramp_spec.specs.Bodies.{AreTool, Keeps, Leap, Safe, Stands, Harmless, finish, finished, at_word, if_stood}
-use Rattle.tramp_spec.specs.Routes.{Path, Route, Effect, Does}
+use Rattle.tramp_spec.specs.Bodies.{AreTool, Keeps, Leap, Safe, Stands, Harmless, finish, bank_at_end, at_word, if_stood}
+use Rattle.tramp_spec.specs.Routes.{Path, Route, Effect, BodyDoes}
 use Rattle.tramp_spec.specs.declared.mark.MarkedWord.{MarkedWord}
 
 pub keeps_all : (x : Bench) → Keeps x x
@@ -121,14 +121,14 @@ right_path a b at ticks (suc n) i e x y p =
 pub right : (a b : List MarkedWord) (at ticks i e : ℕ) (x y : Bench) → Route b (at + 4 * length a) ticks i e x y → Route (a ++ b) at ticks (length a + i) (length a + e) x y
 right a b at ticks i e x y r = (r.0, right_path a b at ticks r.0 i e x y r.1)
 
-pub harmless : (body : List MarkedWord) (f : Effect) → AreTool body → Does body f → Harmless body
+pub harmless : (body : List MarkedWord) (f : Effect) → AreTool body → BodyDoes body f → Harmless body
 harmless body f t d = record { tools = t; safe = λ at ticks x s. let r = d at ticks x s in safe_of body at ticks x r.0 r.1 }
 
-pub leaves : (body : List MarkedWord) (f : Effect) → Does body f → (at ticks : ℕ) (x : Bench) → Stands body at x → finished body at x ticks ≡ f ticks (arguments_of x.regs) x.bank
+pub leaves : (body : List MarkedWord) (f : Effect) → BodyDoes body f → (at ticks : ℕ) (x : Bench) → Stands body at x → bank_at_end body at x ticks ≡ f ticks (arguments_of x.regs) x.bank
 leaves body f d at ticks x s = let r = d at ticks x s in finish_of body at ticks x r.0 r.1 ∙ r.2
 
 -- the second body, after a run of the first words
-pub goes_on : (a b : List MarkedWord) (f : Effect) → Does b f → (at ticks : ℕ) (x z : Bench) → Stands (a ++ b) at x → Route (a ++ b) at ticks 0 (length a) x z
+pub goes_on : (a b : List MarkedWord) (f : Effect) → BodyDoes b f → (at ticks : ℕ) (x z : Bench) → Stands (a ++ b) at x → Route (a ++ b) at ticks 0 (length a) x z
     → (y : Bench) × Route (a ++ b) at ticks 0 (length (a ++ b)) x y × (y.bank ≡ f ticks (arguments_of x.regs) z.bank)
 goes_on a b f d at ticks x z s r =
     let k = keeps (a ++ b) at ticks 0 (length a) x z r in
@@ -140,7 +140,7 @@ goes_on a b f d at ticks x z s r =
     subst (λ m. Route (a ++ b) at ticks (length a) m z q.0) (sym n) (let e : length a + 0 ≡ length a = omega arith in subst (λ m. Route (a ++ b) at ticks m (length a + length b) z q.0) e go) in
     (q.0, and_on (a ++ b) at ticks 0 (length a) (length (a ++ b)) x z q.0 r go', q.2 ∙ ap (λ l. f ticks l z.bank) (arguments_kept x z k))
 
-pub does_both : (a b : List MarkedWord) (f g : Effect) → Does a f → Does b g → Does (a ++ b) (λ ticks args k. g ticks args (f ticks args k))
+pub does_both : (a b : List MarkedWord) (f g : Effect) → BodyDoes a f → BodyDoes b g → BodyDoes (a ++ b) (λ ticks args k. g ticks args (f ticks args k))
 does_both a b f g da db at ticks x s =
     let n = length-append a b in
     let fi = s.fits in

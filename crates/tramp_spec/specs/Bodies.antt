@@ -65,9 +65,9 @@ finish (suc most) body at i x ticks =
     (λ word. if_stood (step_on bank_len word ticks (at + 4 * i) x) x.bank (λ s. finish most body at ((s.pc - at) / 4) s.bench ticks))
 
 -- The bank at the end of the body.
-abbrev pub finished : List MarkedWord → ℕ → Bench → ℕ → List ℕ
-finished body at x ticks = finish (length body) body at 0 x ticks
+abbrev pub bank_at_end : List MarkedWord → ℕ → Bench → ℕ → List ℕ
+bank_at_end body at x ticks = finish (length body) body at 0 x ticks
 
 -- The body leaves a slot as it was, at its end; else it names the slot.
 abbrev pub LeavesSlot : List MarkedWord → ℕ → Type 0
-LeavesSlot body slot = (at ticks : ℕ) (x : Bench) → Stands body at x → slice_index (finished body at x ticks) slot ≡ slice_index x.bank slot
+LeavesSlot body slot = (at ticks : ℕ) (x : Bench) → Stands body at x → slice_index (bank_at_end body at x ticks) slot ≡ slice_index x.bank slot

@@ -1,6 +1,6 @@
 -- A hart of the patched machine, and its step by a marked word.
 use Rattle.std.specs.Prelude.{ℕ, ◌+◌, Bool, true, false, Option, Some, None, Result, Ok, Err, List}
-use Rattle.rv_word.specs.Exec.{Prog, Done, done, exec_of}
+use Rattle.rv_word.specs.Exec.{Prog, Done, done_of_outcome, exec_of}
 use Rattle.rv_word.specs.declared.outcome.Cause.{Cause}
 use Rattle.rv_word.specs.declared.outcome.Cause.TheVariants.{FetchOutside}
 use Rattle.rv_word.specs.declared.outcome.Next.{Next}
@@ -58,7 +58,7 @@ other_step mark word home s =
     }
 
 abbrev pub marked_step : Mark → ℕ → ℕ → ℕ → Solo → Solo
-marked_step Own word h home s = own_step (done (exec_of word s.hart.pc h s.hart.regs s.prog) s.hart.regs) word home s.hart
+marked_step Own word h home s = own_step (done_of_outcome (exec_of word s.hart.pc h s.hart.regs s.prog) s.hart.regs) word home s.hart
 marked_step Enter word h home s = other_step Enter word home s
 marked_step Tool word h home s = other_step Tool word home s
 marked_step Leave word h home s = other_step Leave word home s

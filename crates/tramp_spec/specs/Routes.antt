@@ -18,8 +18,8 @@ abbrev pub Effect : Type 0
 Effect = ℕ → List ℕ → List ℕ → List ℕ
 
 -- the body comes to its end, and leaves this in the bank
-abbrev pub Does : List MarkedWord → Effect → Type 0
-Does body f =
+abbrev pub BodyDoes : List MarkedWord → Effect → Type 0
+BodyDoes body f =
     (at ticks : ℕ) (x : Bench) → Stands body at x
     → (y : Bench) × Route body at ticks 0 (length body) x y × (y.bank ≡ f ticks (arguments_of x.regs) x.bank)
 

@@ -32,16 +32,16 @@ all_hold [] arguments values = true
 all_hold (c ∷ cs) arguments values = meets c.cmp c.right (left_value c.left arguments values) && all_hold cs arguments values
 
 -- a counter goes up modulo 2^64, and down to 0 at least; a timer's value is its number of starts in force
-abbrev pub acted : Act → List ℕ → List ℕ
-acted (Up v) values = slice_set values v ((slice_index values v + 1) % 2 ^ 64)
-acted (Down v) values = slice_set values v (slice_index values v - 1)
-acted (Put v n) values = slice_set values v n
-acted (Start v) values = slice_set values v (slice_index values v + 1)
-acted (Stop v) values = slice_set values v (slice_index values v - 1)
+abbrev pub values_after_act : Act → List ℕ → List ℕ
+values_after_act (Up v) values = slice_set values v ((slice_index values v + 1) % 2 ^ 64)
+values_after_act (Down v) values = slice_set values v (slice_index values v - 1)
+values_after_act (Put v n) values = slice_set values v n
+values_after_act (Start v) values = slice_set values v (slice_index values v + 1)
+values_after_act (Stop v) values = slice_set values v (slice_index values v - 1)
 
 -- a statement acts where all its conditions hold
 abbrev pub values_behind : Stmt → List ℕ → List ℕ → List ℕ
-values_behind s arguments values = if all_hold s.conds arguments values then acted s.act values else values
+values_behind s arguments values = if all_hold s.conds arguments values then values_after_act s.act values else values
 
 -- The values after statements, one after another.
 abbrev pub values_after : List Stmt → List ℕ → List ℕ → List ℕ

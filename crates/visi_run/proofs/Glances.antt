@@ -7,8 +7,8 @@ use Rattle.atomic_table.proofs.Lists.{at_set, at_snoc, set_again}
 use Rattle.visi_run.specs.declared.dial.Reading.{Reading}
 use Rattle.visi_run.specs.declared.sight.Sight.{Sight}
 use Rattle.std.specs.List.{AllByRecursion}
-use Rattle.visi_run.specs.Readings.{first_reading, Before, Rises, Stands, last_from, last_of, MayFollow, Begins}
-use Rattle.visi_run.specs.Sights.{IsSeen, Fits, Kept, opening_sight, reading, spent, together, has_set, longer_list, has_read, Settles}
+use Rattle.visi_run.specs.Readings.{first_reading, Before, Rises, IsReadingIn, last_from, last_of, MayFollow, Begins}
+use Rattle.visi_run.specs.Sights.{IsSeen, Fits, GaugeRule, opening_sight, reading, empty_pass, together, has_set, longer_list, has_read, Settles}
 use Rattle.visi_run.specs.Gauges.{Reader, AllStand, lists_of}
 use Rattle.visi_run.proofs.Desks.{each_append}
 
@@ -22,16 +22,16 @@ before_refl x = (le_refl _, le_refl _, λ e. refl)
 before_trans : (x y z : Reading) → Before x y → Before y z → Before x z
 before_trans x y z a b = (le_trans a.0 b.0, le_trans a.1 b.1, λ e. b.2 (ap (λ (r : Reading). r.ended) (a.2 e) ∙ e) ∙ a.2 e)
 
-stands_front : (xs ys : List Reading) (r : Reading) → Stands xs r → Stands (xs ++ ys) r
+stands_front : (xs ys : List Reading) (r : Reading) → IsReadingIn xs r → IsReadingIn (xs ++ ys) r
 stands_front [] ys r h = absurd h
-stands_front (x ∷ xs) ys r h = ⊎_elim (λ (e : x ≡ r). inl e) (λ (t : Stands xs r). inr (stands_front xs ys r t)) h
+stands_front (x ∷ xs) ys r h = ⊎_elim (λ (e : x ≡ r). inl e) (λ (t : IsReadingIn xs r). inr (stands_front xs ys r t)) h
 
-stands_from : (x : Reading) (xs : List Reading) → Stands (x ∷ xs) (last_from x xs)
+stands_from : (x : Reading) (xs : List Reading) → IsReadingIn (x ∷ xs) (last_from x xs)
 stands_from x [] = inl refl
 stands_from x (y ∷ ys) = inr (stands_from y ys)
 
-last_stands : (log : List Reading) (now : Reading) → Begins log → now ≡ last_of log → Stands log now
-last_stands log now b e = subst (Stands log) (sym e) (subst (λ (l : List Reading). Stands l (last_of l)) (sym b.1) (stands_from first_reading b.0))
+last_stands : (log : List Reading) (now : Reading) → Begins log → now ≡ last_of log → IsReadingIn log now
+last_stands log now b e = subst (IsReadingIn log) (sym e) (subst (λ (l : List Reading). IsReadingIn l (last_of l)) (sym b.1) (stands_from first_reading b.0))
 
 pub last_snoc : (x : Reading) (xs : List Reading) (y : Reading) → last_from x (xs ++ y ∷ []) ≡ y
 last_snoc x [] y = refl
@@ -46,7 +46,7 @@ all_set F views id w mine others j u e = ⊎_elim (λ (x : (j ≡ id) × (w ≡ 
     (λ (x : (j ≢ id) × (get_elem? views j ≡ some u)). others j u x.0 x.1) (at_set views id j w u e)
 
 -- the cell is made
-pub opens : Kept first_reading (opening_sight ∷ [])
+pub opens : GaugeRule first_reading (opening_sight ∷ [])
 opens = record { writer = 0; log = first_reading ∷ []; begins = ([], refl); last = refl; rises = (tt, tt); below = (before_refl first_reading, tt); fits = one }
   where
     one : (by : ℕ) (v : Sight) → get_elem? (opening_sight ∷ []) by ≡ some v → Fits 0 (first_reading ∷ []) first_reading by v
@@ -54,7 +54,7 @@ opens = record { writer = 0; log = first_reading ∷ []; begins = ([], refl); la
     one (suc by) v e = absurd (some-ne-none v (sym e))
 
 -- a reader is split off
-pub admits : (id : ℕ) (v : Sight) → Forks Kept id v v (reading [])
+pub admits : (id : ℕ) (v : Sight) → Forks GaugeRule id v v (reading [])
 admits id v x views k at = record {
   writer = k.writer;
   log = k.log;
@@ -70,12 +70,12 @@ admits id v x views k at = record {
 seen_on : (log : List Reading) (x y : Reading) → Before x y → (rs : List Reading) → IsSeen log x rs → IsSeen (log ++ y ∷ []) y rs
 seen_on log x y go rs s = (
   s.0,
-  each_map {P = Stands log} {Q = Stands (log ++ y ∷ [])} rs (λ r h. stands_front log (y ∷ []) r h) s.1,
+  each_map {P = IsReadingIn log} {Q = IsReadingIn (log ++ y ∷ [])} rs (λ r h. stands_front log (y ∷ []) r h) s.1,
   each_map {P = λ r. Before r x} {Q = λ r. Before r y} rs (λ r h. before_trans r x y h go) s.2,
 )
 
 -- the writer sets
-pub sets : (id : ℕ) (v : Sight) (y : Reading) → v.sets ≡ true → MayFollow (last_of v.wrote) y → Turns Kept id v (λ _. y) (λ v x y w. w ≡ has_set y v)
+pub sets : (id : ℕ) (v : Sight) (y : Reading) → v.sets ≡ true → MayFollow (last_of v.wrote) y → Turns GaugeRule id v (λ _. y) (λ v x y w. w ≡ has_set y v)
 sets id v y may follows x views k at =
     let mine = (k.fits id v at).0 may in
     let last : last_of v.wrote ≡ x = ap last_of mine.1 ∙ sym k.last in
@@ -98,19 +98,19 @@ sets id v y may follows x views k at =
       refl,
     )
 
-longer_seen : (log : List Reading) (x : Reading) → Stands log x → (lists : List (List Reading)) → AllByRecursion (IsSeen log x) lists → AllByRecursion (IsSeen log x) (longer_list x lists)
+longer_seen : (log : List Reading) (x : Reading) → IsReadingIn log x → (lists : List (List Reading)) → AllByRecursion (IsSeen log x) lists → AllByRecursion (IsSeen log x) (longer_list x lists)
 longer_seen log x st [] h = tt
 longer_seen log x st (rs ∷ rss) h = (
   (
     rises_snoc rs x h.0.0 h.0.2,
-    each_append (λ r. Stands log r) rs (x ∷ []) h.0.1 (st, tt),
+    each_append (λ r. IsReadingIn log r) rs (x ∷ []) h.0.1 (st, tt),
     each_append (λ r. Before r x) rs (x ∷ []) h.0.2 (before_refl x, tt),
   ),
   h.1,
 )
 
 -- a reader reads
-pub reads : (id : ℕ) (v : Sight) → Turns Kept id v (λ x. x) (λ v x y w. (w ≡ has_read y v) × AllByRecursion Rises w.lists)
+pub reads : (id : ℕ) (v : Sight) → Turns GaugeRule id v (λ x. x) (λ v x y w. (w ≡ has_read y v) × AllByRecursion Rises w.lists)
 reads id v x views k at =
     let seen = longer_seen k.log x (last_stands k.log x k.begins k.last) v.lists (k.fits id v at).1 in (
       has_read x v,
@@ -127,7 +127,7 @@ reads id v x views k at =
     )
 
 -- a reader's whole view goes to a new pass
-pub leaves : (id : ℕ) (v : Sight) → v.sets ≡ false → Forks Kept id v spent v
+pub leaves : (id : ℕ) (v : Sight) → v.sets ≡ false → Forks GaugeRule id v empty_pass v
 leaves id v none x views k at = record {
   writer = k.writer;
   log = k.log;
@@ -135,13 +135,13 @@ leaves id v none x views k at = record {
   last = k.last;
   rises = k.rises;
   below = k.below;
-  fits = λ j u e. ⊎_elim (λ was. all_set (Fits k.writer k.log x) views id spent ((λ s. absurd (true≢false (sym s))), tt) (λ i w other f. k.fits i w f) j u was)
+  fits = λ j u e. ⊎_elim (λ was. all_set (Fits k.writer k.log x) views id empty_pass ((λ s. absurd (true≢false (sym s))), tt) (λ i w other f. k.fits i w f) j u was)
       (λ (is : v ≡ u). subst (Fits k.writer k.log x j) is ((λ s. absurd (true≢false (sym s ∙ none))), (k.fits id v at).1))
-      (at_snoc (set views id spent) v u j e);
+      (at_snoc (set views id empty_pass) v u j e);
 }
 
 -- the writer takes in another pass
-pub meets : (id : ℕ) (v : Sight) (other : ℕ) (w : Sight) → Merges Kept id v other w (together v w) spent
+pub meets : (id : ℕ) (v : Sight) (other : ℕ) (w : Sight) → Merges GaugeRule id v other w (together v w) empty_pass
 meets id v other w x views k at two there =
     let was : get_elem? views other ≡ some w = ⊎_elim (λ (t : (other ≡ id) × (together v w ≡ w)). absurd (two t.0)) (λ (t : (other ≢ id) × (get_elem? views other ≡ some w)). t.1) (at_set views id other (together v w) w there) in
     record {
@@ -151,21 +151,21 @@ meets id v other w x views k at two there =
       last = k.last;
       rises = k.rises;
       below = k.below;
-      fits = all_set (Fits k.writer k.log x) (set views id (together v w)) other spent ((λ s. absurd (true≢false (sym s))), tt)
+      fits = all_set (Fits k.writer k.log x) (set views id (together v w)) other empty_pass ((λ s. absurd (true≢false (sym s))), tt)
           (λ i y apart f. all_set (Fits k.writer k.log x) views id (together v w) ((k.fits id v at).0, each_append (IsSeen k.log x) v.lists w.lists (k.fits id v at).1 (k.fits other w was).1) (λ j u _ e. k.fits j u e) i y f);
     }
 
 -- the writer learns what the rule says
-pub closes : (id : ℕ) (v : Sight) → v.sets ≡ true → Turns Kept id v (λ x. x) (λ v x y w. Settles v y)
+pub closes : (id : ℕ) (v : Sight) → v.sets ≡ true → Turns GaugeRule id v (λ x. x) (λ v x y w. Settles v y)
 closes id v may x views k at =
     let log : k.log ≡ v.wrote = sym ((k.fits id v at).0 may).1 in (
       v,
-      subst (Kept x) (sym (set_again views id v at)) k,
+      subst (GaugeRule x) (sym (set_again views id v at)) k,
       record {
         begins = subst Begins log k.begins;
         last = k.last ∙ ap last_of log;
         rises = subst Rises log k.rises;
-        lists = subst (λ (l : List Reading). AllByRecursion (λ rs. Rises rs × AllByRecursion (λ r. Stands l r) rs) v.lists) log (each_map {P = IsSeen k.log x} {Q = λ rs. Rises rs × AllByRecursion (λ r. Stands k.log r) rs} v.lists (λ rs s. (s.0, s.1)) (k.fits id v at).1);
+        lists = subst (λ (l : List Reading). AllByRecursion (λ rs. Rises rs × AllByRecursion (λ r. IsReadingIn l r) rs) v.lists) log (each_map {P = IsSeen k.log x} {Q = λ rs. Rises rs × AllByRecursion (λ r. IsReadingIn k.log r) rs} v.lists (λ rs s. (s.0, s.1)) (k.fits id v at).1);
       },
     )
 
@@ -174,6 +174,6 @@ each_at P [] i x lt is h = absurd (omega arith)
 each_at P (y ∷ ys) zero x lt is h = subst P (sym is) h.0
 each_at P (y ∷ ys) (suc i) x lt is h = each_at P ys i x (omega arith) is h.1
 
-pub stand_by : (log : List Reading) (rs : List Reader) → AllByRecursion (λ xs. Rises xs × AllByRecursion (λ r. Stands log r) xs) (lists_of rs) → AllStand log rs
+pub stand_by : (log : List Reading) (rs : List Reader) → AllByRecursion (λ xs. Rises xs × AllByRecursion (λ r. IsReadingIn log r) xs) (lists_of rs) → AllStand log rs
 stand_by log [] h = tt
 stand_by log (r ∷ rs) h = (h.0, stand_by log rs h.1)

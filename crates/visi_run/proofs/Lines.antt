@@ -8,9 +8,9 @@ use Rattle.pn_types.specs.declared.quantum.Quantum.{Quantum}
 use Rattle.report.specs.declared.parts.ShownPart.{ShownPart}
 use Rattle.session_spec.specs.Due.{place_behind}
 use Rattle.session_spec.specs.Inputs.{Inputs}
-use Rattle.session_spec.specs.Work.{closed, work}
-use Rattle.session_spec.specs.declared.data.Latest.{Latest}
-use Rattle.session_spec.specs.declared.data.Shown.{Shown}
+use Rattle.session_spec.specs.Work.{final_state, after_quanta}
+use Rattle.session_spec.specs.declared.data.LatestSample.{LatestSample}
+use Rattle.session_spec.specs.declared.data.MetricFocusPair.{MetricFocusPair}
 use Rattle.session_spec.specs.Bins.{AreRecorded}
 use Rattle.session_spec.specs.Feed.{IsFeed, places_behind}
 use Rattle.session.specs.Parts.{shown_part, shown_parts}
@@ -18,7 +18,7 @@ use Rattle.visi_run.specs.Feed.{feed_of}
 use Rattle.visi_run.specs.Viewed.{shown_of}
 
 -- as many parts are shown as there are places
-shown_many : (i : Inputs) (n : ℕ) (ss : List Shown) (rs : List (List Bin)) → length rs ≡ length ss → n + length (shown_parts i ss rs) ≡ places_behind n ss
+shown_many : (i : Inputs) (n : ℕ) (ss : List MetricFocusPair) (rs : List (List Bin)) → length rs ≡ length ss → n + length (shown_parts i ss rs) ≡ places_behind n ss
 shown_many i n [] [] e = omega arith
 shown_many i n [] (r ∷ rs) e = absurd (omega arith)
 shown_many i n (s ∷ ss) [] e = absurd (omega arith)
@@ -29,10 +29,10 @@ shown_many i n (s ∷ ss) (r ∷ rs) e = by s.node (λ m. shown_many i m ss rs (
     by None rest = let more = rest (n + 1) in omega arith
     by (Some node) rest = rest n
 
-pub lines_all : (i : Inputs) (quanta : List Quantum) → IsFeed (closed i (work i quanta)) → AreRecorded i (closed i (work i quanta)) → (l : Latest) → In l (feed_of i quanta) → l.shown < length (shown_of i quanta)
+pub lines_all : (i : Inputs) (quanta : List Quantum) → IsFeed (final_state i (after_quanta i quanta)) → AreRecorded i (final_state i (after_quanta i quanta)) → (l : LatestSample) → In l (feed_of i quanta) → l.shown < length (shown_of i quanta)
 unfolding feed_of
 lines_all i quanta feed recorded l h =
-    let s = closed i (work i quanta) in
+    let s = final_state i (after_quanta i quanta) in
     let many = shown_many i 0 s.kept.shown s.recorded recorded.many in
     let below = feed.below l h in
     omega arith

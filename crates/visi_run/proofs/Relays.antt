@@ -5,7 +5,7 @@ use lib.ListN.{get_elem?}
 use Rattle.crossbeam_channel.specs.Fifo.{Pushes, Pops, Forks, Merges, Learns}
 use Rattle.atomic_table.proofs.Lists.{at_set, at_snoc}
 use Rattle.visi_run.specs.declared.line.Log.{Log}
-use Rattle.session_spec.specs.declared.data.Latest.{Latest}
+use Rattle.session_spec.specs.declared.data.LatestSample.{LatestSample}
 use Rattle.visi_run.specs.Lines.{log, Fits, Flows}
 
 at_end : (l : List Log) (a b : Log) (j : ℕ) → get_elem? l j ≢ some b → get_elem? (l ++ a ∷ []) j ≡ some b → j ≡ length l
@@ -24,7 +24,7 @@ all_set F views port w mine others j u e = ⊎_elim (λ (x : (j ≡ port) × (w 
 pub begins : Flows [] (log true true [] [] ∷ [])
 begins = (0, 0, [], [], refl, all_set (Fits 0 0 [] []) (log true true [] [] ∷ []) 0 (log true true [] []) ((λ _. (refl, refl)), λ _. (refl, refl)) (λ j u other e. absurd (other (at_end [] _ u j (λ x. some-ne-none u (sym x)) e))))
 
-pub sends : (n port : ℕ) (v : Log) (x : Latest) → v.sends ≡ true → Pushes Flows n port v x (λ w. w ≡ log v.sends v.takes (v.sent ++ x ∷ []) v.taken)
+pub sends : (n port : ℕ) (v : Log) (x : LatestSample) → v.sends ≡ true → Pushes Flows n port v x (λ w. w ≡ log v.sends v.takes (v.sent ++ x ∷ []) v.taken)
 sends n port v x may items views _ h at = let w : Log = log v.sends v.takes (v.sent ++ x ∷ []) v.taken in let mine = h.5 port v at in let sent = h.2 ++ x ∷ [] in (
   w,
   (

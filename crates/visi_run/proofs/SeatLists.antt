@@ -3,7 +3,7 @@ use Rattle.std.proofs.Common.{◌≡◌, ℕ, zero, suc, ◌<◌, ◌≤◌, Lis
 use Rattle.std.specs.Prelude.{slice_index_or, replicate}
 use Rattle.std.specs.List.{AllByRecursion}
 use Rattle.atomic_table.specs.Seated.{TableId}
-use Rattle.session_spec.specs.declared.data.Latest.{Latest}
+use Rattle.session_spec.specs.declared.data.LatestSample.{LatestSample}
 use Rattle.visi_run.specs.Texts.{first_count}
 use Rattle.visi_run.specs.declared.view.Seat.{Seat}
 use Rattle.visi_run.specs.Watching.{IsSameSeat, seat_lines, AreSeatsOf}
@@ -42,6 +42,6 @@ all_same xs [] h = refl
 all_same xs (x ∷ lists) h = λ k. h.0 k ∷ all_same xs lists h.1 k
 
 -- how many samples the first view was given, where all were given the same ones
-pub first_is : (xs : List Latest) (lists : List (List Latest)) → AllByRecursion (λ x. x ≡ xs) lists → 1 ≤ length lists → first_count lists ≡ length xs
+pub first_is : (xs : List LatestSample) (lists : List (List LatestSample)) → AllByRecursion (λ x. x ≡ xs) lists → 1 ≤ length lists → first_count lists ≡ length xs
 first_is xs [] h some = absurd (omega (arith, some))
-first_is xs (x ∷ lists) h some = ap (λ (l : List Latest). length l) h.0
+first_is xs (x ∷ lists) h some = ap (λ (l : List LatestSample). length l) h.0

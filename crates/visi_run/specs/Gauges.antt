@@ -3,7 +3,7 @@ use Rattle.std.specs.Prelude.{◌≡◌, ℕ, List, map}
 use Rattle.std.specs.List.{AllByRecursion}
 use Rattle.atomic_table.specs.Seated.{TableId}
 use Rattle.visi_run.specs.declared.dial.Reading.{Reading}
-use Rattle.visi_run.specs.Readings.{Rises, Stands}
+use Rattle.visi_run.specs.Readings.{Rises, IsReadingIn}
 
 -- the cell, and how many readers it has
 pub record Dial : Type 0 where
@@ -30,4 +30,4 @@ lists_of rs = map (λ (r : Reader). r.list) rs
 
 -- each list rises, and each of its readings stands in the writer's list
 abbrev pub AllStand : List Reading → List Reader → Type 0
-AllStand log rs = AllByRecursion (λ (r : Reader). Rises r.list × AllByRecursion (λ x. Stands log x) r.list) rs
+AllStand log rs = AllByRecursion (λ (r : Reader). Rises r.list × AllByRecursion (λ x. IsReadingIn log x) r.list) rs

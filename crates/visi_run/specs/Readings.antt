@@ -16,9 +16,9 @@ Rises [] = Unit {0}
 Rises (x ∷ xs) = AllByRecursion (Before x) xs × Rises xs
 
 -- the reading stands in the list
-abbrev pub Stands : List Reading → Reading → Type 0
-Stands [] r = ⊥
-Stands (x ∷ xs) r = (x ≡ r) ⊎ Stands xs r
+abbrev pub IsReadingIn : List Reading → Reading → Type 0
+IsReadingIn [] r = ⊥
+IsReadingIn (x ∷ xs) r = (x ≡ r) ⊎ IsReadingIn xs r
 
 abbrev pub last_from : Reading → List Reading → Reading
 last_from x [] = x

@@ -6,18 +6,18 @@ use mathlib.Core.Option.{some}
 use lib.ListN.{get_elem?}
 use Rattle.visi_run.specs.declared.dial.Reading.{Reading}
 use Rattle.visi_run.specs.declared.sight.Sight.{Sight}
-use Rattle.visi_run.specs.Readings.{first_reading, Before, Rises, Stands, last_of, Begins}
+use Rattle.visi_run.specs.Readings.{first_reading, Before, Rises, IsReadingIn, last_of, Begins}
 
 -- what the rule says of a reader's list, where the cell holds now
 abbrev pub IsSeen : List Reading → Reading → List Reading → Type 0
-IsSeen log now rs = Rises rs × AllByRecursion (λ r. Stands log r) rs × AllByRecursion (λ r. Before r now) rs
+IsSeen log now rs = Rises rs × AllByRecursion (λ r. IsReadingIn log r) rs × AllByRecursion (λ r. Before r now) rs
 
 -- what the rule says of one pass
 abbrev pub Fits : ℕ → List Reading → Reading → ℕ → Sight → Type 0
 Fits writer log now by v = (v.sets ≡ true → (by ≡ writer) × (v.wrote ≡ log)) × AllByRecursion (IsSeen log now) v.lists
 
 -- the rule: what the cell holds, and all passes
-pub record Kept (now : Reading) (views : List Sight) : Type 0 where
+pub record GaugeRule (now : Reading) (views : List Sight) : Type 0 where
   pub writer : ℕ
   pub log : List Reading
   pub begins : Begins log
@@ -42,8 +42,8 @@ abbrev pub writing : List Reading → Sight
 writing log = sight true log []
 
 -- a pass whose view went to another
-abbrev pub spent : Sight
-spent = sight false [] []
+abbrev pub empty_pass : Sight
+empty_pass = sight false [] []
 
 abbrev pub together : Sight → Sight → Sight
 together v w = sight v.sets v.wrote (v.lists ++ w.lists)
@@ -64,7 +64,7 @@ pub record Settles (v : Sight) (now : Reading) : Type 0 where
   pub begins : Begins v.wrote
   pub last : now ≡ last_of v.wrote
   pub rises : Rises v.wrote
-  pub lists : AllByRecursion (λ rs. Rises rs × AllByRecursion (λ r. Stands v.wrote r) rs) v.lists
+  pub lists : AllByRecursion (λ rs. Rises rs × AllByRecursion (λ r. IsReadingIn v.wrote r) rs) v.lists
 
 abbrev pub first_of : List (List Reading) → List Reading
 first_of [] = []

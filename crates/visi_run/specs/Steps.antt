@@ -9,23 +9,23 @@ use Rattle.visi_run.specs.Feed.{feed_of, last_reading, reading_of}
 use Rattle.visi_run.specs.declared.outlet.Outlet.{Outlet}
 
 -- Time goes on. Where no samples were taken the feed stays; otherwise the latest are appended to it.
-pub record IsStep (s t : State) : Type 0 where
+pub record IsSampleStep (s t : State) : Type 0 where
   pub time : s.kept.time ≤ t.kept.time
   pub none : t.kept.samples ≡ s.kept.samples → t.feed ≡ s.feed
   pub some : t.kept.samples ≢ s.kept.samples → t.feed ≡ s.feed ++ t.latest
 
 -- all samples are published, and the gauge was set to where the run is
-pub record IsTold (o : Outlet) (s : State) (ended : Bool) : Type 0 where
+pub record HasPublished (o : Outlet) (s : State) (ended : Bool) : Type 0 where
   pub feed : o.publisher.items ≡ s.feed
   pub samples : o.samples ≡ s.kept.samples
   pub published : o.published ≡ (reading_of s ended).published
   pub last : last_of o.writer.list ≡ reading_of s ended
 
 -- those before the session's last step are
-pub record IsBehind (o : Outlet) (s : State) : Type 0 where
+pub record HasOneStep (o : Outlet) (s : State) : Type 0 where
   pub before : State
-  pub told : IsTold o before false
-  pub step : IsStep before s
+  pub told : HasPublished o before false
+  pub step : IsSampleStep before s
 
 -- the session took the whole list of quanta of the seed and is closed; all its samples are published to the same views, and the
 -- gauge tells its end

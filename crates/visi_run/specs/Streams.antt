@@ -8,23 +8,23 @@ use Rattle.crossbeam_channel.specs.declared.flavors.array.Doing.{Doing}
 use Rattle.crossbeam_channel.specs.declared.flavors.array.Rounds.{Rounds}
 use Rattle.crossbeam_channel.specs.declared.flavors.array.Lockers.{Lockers}
 use Rattle.crossbeam_channel.specs.declared.flavors.array.Whole.{Whole}
-use Rattle.session_spec.specs.declared.data.Latest.{Latest}
+use Rattle.session_spec.specs.declared.data.LatestSample.{LatestSample}
 use Rattle.visi_run.specs.declared.line.InOrder.{InOrder}
 use Rattle.visi_run.specs.declared.line.Log.{Log}
 
 -- a view's channel
-abbrev pub Line : Type 0
-Line = Rows (Badge (Key Latest)) (Doing Latest Log) (Rounds InOrder) (Option Latest) (Key Latest) (Lockers Whole) Global
+abbrev pub ViewChannel : Type 0
+ViewChannel = Rows (Badge (Key LatestSample)) (Doing LatestSample Log) (Rounds InOrder) (Option LatestSample) (Key LatestSample) (Lockers Whole) Global
 
 -- what was published, and the views' channels in order
 pub record Published : Type 0 where
-  pub items : List Latest
-  pub lines : List Line
+  pub items : List LatestSample
+  pub lines : List ViewChannel
 
 -- what a view took, and its channel
 pub record Watch : Type 0 where
-  pub taken : List Latest
-  pub line : Line
+  pub taken : List LatestSample
+  pub line : ViewChannel
 
-abbrev pub watch_lines : List Watch → List Line
+abbrev pub watch_lines : List Watch → List ViewChannel
 watch_lines watches = map (λ (watch : Watch). watch.line) watches

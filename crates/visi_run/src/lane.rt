@@ -9,7 +9,7 @@ ghost use Rattle.visi_run.specs.Lines.{log};
 use crate::line::{LinePass, Receiver, Roles, Sender, Sends, TakesRest};
 use crate::publisher::View;
 use pn_types::NoMemory;
-use session_spec::Latest;
+use session_spec::LatestSample;
 use std::collections::VecDeque;
 use std::marker::Model;
 use std::sync::Wait;
@@ -19,16 +19,16 @@ use std::sync::Wait;
 pub struct Lane {
     pub(crate) sender: Sender,
     pub(crate) pass: LinePass,
-    pub(crate) waiting: VecDeque<Latest>,
+    pub(crate) waiting: VecDeque<LatestSample>,
 }
 
 impl Model for Lane {
     ghost use Rattle.std.specs.Prelude.{◌-◌, ◌++◌};
     ghost use Rattle.std.specs.VecDeque.{deque_len, deque_capacity};
     ghost use Rattle.crossbeam_channel.specs.Ends.{sends_on};
-    ghost use Rattle.visi_run.specs.Lanes.{Desk, IsSender, sent_by};
+    ghost use Rattle.visi_run.specs.Lanes.{LaneData, IsSender, sent_by};
 
-    ghost Value = { Desk };
+    ghost Value = { LaneData };
 
     ghost view = { λ l. record {
       all = sent_by l.pass ++ l.waiting.items;
@@ -53,7 +53,7 @@ impl Lane {
     }
 
     /// Appends the items to those that wait.
-    pub fn push_all(&mut self, items: &[Latest])
+    pub fn push_all(&mut self, items: &[LatestSample])
         requires { length items.now ≤ self.old.room }
         ensures all { self.new.all ≡ self.old.all ++ items.now }
         ensures line { self.new.line ≡ self.old.line }
@@ -73,7 +73,7 @@ impl Lane {
     /// # Errors
     ///
     /// `NoMemory` where memory runs out.
-    pub fn settle<R: Wait>(&mut self, rt: &R, watch: View) -> Result<Vec<Latest>, NoMemory>
+    pub fn settle<R: Wait>(&mut self, rt: &R, watch: View) -> Result<Vec<LatestSample>, NoMemory>
         requires { watch.line ≡ self.old.line }
         ensures same { (self.new.all ≡ self.old.all) × (self.new.line ≡ self.old.line) }
         ensures list { IfOk result (λ v. v.items ≡ self.old.all) }
@@ -90,7 +90,7 @@ impl Lane {
     }
 }
 
-fn push_waiting(waiting: &mut VecDeque<Latest>, items: &[Latest])
+fn push_waiting(waiting: &mut VecDeque<LatestSample>, items: &[LatestSample])
     requires { length items.now ≤ deque_capacity waiting.old - deque_len waiting.old }
     ensures { waiting.new.items ≡ waiting.old.items ++ items.now }
 {
@@ -104,7 +104,7 @@ fn send_waiting<R: Wait>(
     rt: &R,
     sender: &Sender,
     pass: &mut LinePass,
-    waiting: &mut VecDeque<Latest>,
+    waiting: &mut VecDeque<LatestSample>,
 )
     requires { IsSeatAt (sends_on sender.now) pass.old × ((view pass.old).sends ≡ true) }
     ensures pass { IsSeatAt (sends_on sender.now) pass.new × ((view pass.new).sends ≡ true) }
@@ -126,7 +126,7 @@ fn take_rest<R: Wait>(
     rt: &R,
     receiver: &Receiver,
     pass: &mut LinePass,
-    taken: &mut Vec<Latest>,
+    taken: &mut Vec<LatestSample>,
 ) -> Result<(), NoMemory>
     requires pass { IsSeatAt (receives_on receiver.now) pass.old }
     requires view { view pass.old ≡ log true true (view pass.old).sent taken.old.items }

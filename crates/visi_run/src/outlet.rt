@@ -1,10 +1,10 @@
 //! What tells the views of a run.
 
 ghost use Rattle.std.specs.Prelude.{◌≡◌, [], ◌∷◌, false, OnOk};
-ghost use Rattle.session.specs.Sessions.{begun, state_of};
+ghost use Rattle.session.specs.Sessions.{new_session, state_of};
 ghost use Rattle.visi_run.specs.Readings.{first_reading};
 ghost use Rattle.visi_run.specs.Feed.{reading_of};
-ghost use Rattle.visi_run.specs.Steps.{IsBehind, IsTold};
+ghost use Rattle.visi_run.specs.Steps.{HasOneStep, HasPublished};
 
 use crate::board::Board;
 use crate::dial::{GaugeWriter, Reading};
@@ -27,10 +27,10 @@ pub struct Outlet {
 impl Outlet {
     /// Makes the outlet of a session that just began.
     pub fn new(publisher: Publisher, writer: GaugeWriter, session: &Session) -> Outlet
-        requires begun { session.now ≡ begun session.now.inputs }
+        requires begun { session.now ≡ new_session session.now.inputs }
         requires none { publisher.items ≡ [] }
         requires first { writer.list ≡ first_reading ∷ [] }
-        ensures told { IsTold result (state_of session.now) false }
+        ensures told { HasPublished result (state_of session.now) false }
         ensures same { (result.publisher.lines ≡ publisher.lines) × (result.writer.cell ≡ writer.cell) }
     {
         Outlet {
@@ -43,7 +43,7 @@ impl Outlet {
 
     // Publishes the session's latest samples, if any were taken in its last step.
     fn publish(&mut self, session: &Session) -> Result<(), NoMemory>
-        requires { IsBehind self.old (state_of session.now) }
+        requires { HasOneStep self.old (state_of session.now) }
         ensures feed { OnOk result (self.new.publisher.items ≡ (state_of session.now).feed) }
         ensures samples { OnOk result (self.new.samples ≡ (state_of session.now).kept.samples) }
         ensures published { OnOk result (self.new.published ≡ (reading_of (state_of session.now) false).published) }
@@ -73,8 +73,8 @@ impl Outlet {
         ended: bool,
     ) -> Result<(), NoMemory>
         requires cell { self.old.writer.cell ≡ board.now.gauge.cell }
-        requires behind { IsBehind self.old (state_of session.now) }
-        ensures told { OnOk result (IsTold self.new (state_of session.now) ended) }
+        requires behind { HasOneStep self.old (state_of session.now) }
+        ensures told { OnOk result (HasPublished self.new (state_of session.now) ended) }
         ensures same { (self.new.publisher.lines ≡ self.old.publisher.lines) × (self.new.writer.cell ≡ self.old.writer.cell) }
     {
         self.publish(session)?;

@@ -2,13 +2,13 @@
 ghost use Rattle.std.specs.Prelude.{◌≡◌, ◌<◌, ◌≤◌, ◌++◌, [], ◌∷◌, length, map, vec_capacity, IfOk, IfSome, IfNone, OnOk, OnErr};
 ghost use Rattle.std.specs.List.{AllByRecursion};
 ghost use Rattle.visi_run.specs.Streams.{Watch, watch_lines};
-ghost use Rattle.visi_run.specs.Lanes.{lines_of, alls_of, AreAlike, HaveRoom};
+ghost use Rattle.visi_run.specs.Lanes.{lines_of, alls_of, HaveOneList, HaveRoom};
 
 use crate::lane::Lane;
 use crate::line::{InOrder, LinePass, Log, Receiver, Roles, Takes};
 use crossbeam_channel::bounded_with;
 use pn_types::NoMemory;
-use session_spec::Latest;
+use session_spec::LatestSample;
 use std::alloc::Global;
 use std::collections::VecDeque;
 use std::marker::Model;
@@ -23,13 +23,13 @@ pub struct Publisher {
 impl Model for Publisher {
     ghost use Rattle.std.specs.Prelude.{◌<◌, length};
     ghost use Rattle.visi_run.specs.Streams.{Published};
-    ghost use Rattle.visi_run.specs.Lanes.{first_list, lines_of, AreAlike};
+    ghost use Rattle.visi_run.specs.Lanes.{first_list, lines_of, HaveOneList};
 
     ghost Value = { Published };
 
     ghost view = { λ p. record { items = first_list p.lanes.items; lines = lines_of p.lanes.items } };
 
-    ghost invariant = { λ p. (0 < length p.lanes.items) × AreAlike p.lanes.items };
+    ghost invariant = { λ p. (0 < length p.lanes.items) × HaveOneList p.lanes.items };
 }
 
 /// A view's end. Contracts see what it took, and its channel.
@@ -37,7 +37,7 @@ impl Model for Publisher {
 pub struct View {
     pub(crate) receiver: Receiver,
     pub(crate) pass: LinePass,
-    pub(crate) taken: Vec<Latest>,
+    pub(crate) taken: Vec<LatestSample>,
 }
 
 impl Model for View {
@@ -98,7 +98,7 @@ fn open(alloc: Global, room: u32) -> Result<(Lane, View), NoMemory>
     requires { 0 < room }
     ensures { IfOk result (λ r. (r.0.all ≡ []) × (r.1.taken ≡ []) × (r.1.line ≡ r.0.line)) }
 {
-    let (sender, receiver, mut pass) = bounded_with::<Latest, Log, InOrder, Global>(
+    let (sender, receiver, mut pass) = bounded_with::<LatestSample, Log, InOrder, Global>(
         alloc,
         room as usize,
     )?;
@@ -122,7 +122,7 @@ impl Publisher {
     /// # Errors
     ///
     /// `NoMemory` where memory runs out. Then nothing has changed.
-    pub fn publish(&mut self, items: &[Latest]) -> Result<(), NoMemory>
+    pub fn publish(&mut self, items: &[LatestSample]) -> Result<(), NoMemory>
         ensures ok { OnOk result (self.new.items ≡ self.old.items ++ items.now) }
         ensures err { OnErr result (self.new.items ≡ self.old.items) }
         ensures lines { self.new.lines ≡ self.old.lines }
@@ -146,7 +146,7 @@ impl View {
     /// # Errors
     ///
     /// `NoMemory` where memory runs out. Then nothing has changed.
-    pub fn take<R: Wait>(&mut self, rt: &R) -> Result<Option<Latest>, NoMemory>
+    pub fn take<R: Wait>(&mut self, rt: &R) -> Result<Option<LatestSample>, NoMemory>
         ensures some { IfOk result (λ o. IfSome o (λ x. self.new ≡ record self.old { taken = self.old.taken ++ x ∷ [] })) }
         ensures none { IfOk result (λ o. IfNone o (self.new ≡ self.old)) }
         ensures err { OnErr result (self.new ≡ self.old) }
@@ -162,7 +162,7 @@ impl View {
     }
 
     /// Returns what the view took, in order.
-    pub fn taken(&self) -> &[Latest]
+    pub fn taken(&self) -> &[LatestSample]
         ensures { result.now ≡ self.now.taken }
     {
         self.taken.as_slice()
@@ -180,7 +180,7 @@ pub fn gather<R: Wait>(
     alloc: Global,
     p: Publisher,
     views: Vec<View>,
-) -> Result<Vec<Vec<Latest>>, NoMemory>
+) -> Result<Vec<Vec<LatestSample>>, NoMemory>
     requires { watch_lines views.items ≡ p.lines }
     ensures count { IfOk result (λ r. length r.items ≡ length p.lines) }
     ensures whole { IfOk result (λ r. AllByRecursion (λ xs. xs ≡ p.items) (map (λ v. v.items) r.items)) }
@@ -202,7 +202,7 @@ fn reserve_all(lanes: &mut Vec<Lane>, count: usize) -> Result<(), NoMemory>
     Ok(())
 }
 
-fn push_all(lanes: &mut Vec<Lane>, items: &[Latest])
+fn push_all(lanes: &mut Vec<Lane>, items: &[LatestSample])
     requires { HaveRoom (length items.now) lanes.old.items }
     ensures alls { alls_of lanes.new.items ≡ map (λ xs. xs ++ items.now) (alls_of lanes.old.items) }
     ensures lines { lines_of lanes.new.items ≡ lines_of lanes.old.items }
@@ -225,7 +225,7 @@ fn settle_all<R: Wait>(
     rt: &R,
     lanes: &mut Vec<Lane>,
     views: Vec<View>,
-    lists: &mut Vec<Vec<Latest>>,
+    lists: &mut Vec<Vec<LatestSample>>,
 ) -> Result<(), NoMemory>
     requires lines { watch_lines views.items ≡ lines_of lanes.old.items }
     requires lists { (lists.old.items ≡ []) × (length views.items ≤ vec_capacity lists.old) }

@@ -3,12 +3,12 @@
 ghost use Rattle.std.specs.Prelude.{◌≡◌, ◌≤◌, true, false, length, map, IfErr, IfOk, OnOk, None};
 ghost use Rattle.std.specs.List.{AllByRecursion};
 ghost use Rattle.session.specs.Given.{AreGiven};
-ghost use Rattle.session.specs.Sessions.{begun, IsStartFault, state_of};
+ghost use Rattle.session.specs.Sessions.{new_session, IsStartFault, state_of};
 ghost use Rattle.session_spec.specs.Opening.{bad_pick};
 ghost use Rattle.whole_run.specs.Rounds.{StandAt};
 ghost use Rattle.whole_run.specs.Seeded.{IsSeeded};
 ghost use Rattle.visi_run.specs.Feed.{feed_of, last_reading};
-ghost use Rattle.visi_run.specs.Steps.{HasRun, IsTold};
+ghost use Rattle.visi_run.specs.Steps.{HasRun, HasPublished};
 ghost use Rattle.visi_run.specs.Viewed.{IsViewed};
 ghost use Rattle.visi_run.specs.Watching.{seat_lines, AreSeatsOf};
 
@@ -23,7 +23,7 @@ use crate::view::Seat;
 use outside::Gate;
 use pn_types::{MAX_HARTS, MAX_QUANTUM, NoMemory};
 use session::{Inputs, Session, StartFault};
-use session_spec::Latest;
+use session_spec::LatestSample;
 use std::alloc::Global;
 use std::sync::Wait;
 use std::thread;
@@ -59,11 +59,11 @@ fn take_all<R: Wait, G: Gate>(
 ) -> Result<(), NoMemory>
     requires at { StandAt rounds session.old }
     requires cell { outlet.old.writer.cell ≡ board.now.gauge.cell }
-    requires told { IsTold outlet.old (state_of session.old) false }
+    requires told { HasPublished outlet.old (state_of session.old) false }
     ensures inputs { session.new.inputs ≡ session.old.inputs }
     ensures going { session.new.closed ≡ false }
     ensures seeded { OnOk result (IsSeeded session.old.inputs rounds.seed rounds.turns session.new.quanta) }
-    ensures told { OnOk result (IsTold outlet.new (state_of session.new) false) }
+    ensures told { OnOk result (HasPublished outlet.new (state_of session.new) false) }
     ensures same { (outlet.new.publisher.lines ≡ outlet.old.publisher.lines) × (outlet.new.writer.cell ≡ outlet.old.writer.cell) }
 {
     'quanta: for _ in rt.forever() {
@@ -91,7 +91,7 @@ fn run<R: Wait, G: Gate>(
 ) -> Result<(Session, Outlet), NoMemory>
     requires at { StandAt rounds session }
     requires cell { outlet.writer.cell ≡ board.now.gauge.cell }
-    requires told { IsTold outlet (state_of session) false }
+    requires told { HasPublished outlet (state_of session) false }
     ensures { IfOk result (λ r. HasRun session.inputs rounds.seed rounds.turns outlet r.0 r.1) }
 {
     take_all(rt, board, rounds, &mut session, &mut outlet, gate)?;
@@ -106,7 +106,7 @@ struct Streamed {
     /// The session, which is closed.
     session: Session,
     /// What each view was given.
-    lists: Vec<Vec<Latest>>,
+    lists: Vec<Vec<LatestSample>>,
     /// The last reading of the gauge.
     last: Reading,
 }
@@ -124,7 +124,7 @@ fn stream<R: Threads + Wait + Sync, G: Gate + Sync>(
     harts: u32,
     gate: &G,
 ) -> Result<Streamed, NoMemory>
-    requires begun { session ≡ begun session.inputs }
+    requires begun { session ≡ new_session session.inputs }
     requires harts { harts ≡ session.inputs.settings.harts }
     requires few { harts ≤ MAX_HARTS }
     requires turns { (1 ≤ course.turns) × (course.turns ≤ MAX_QUANTUM) }
@@ -150,7 +150,7 @@ fn stream<R: Threads + Wait + Sync, G: Gate + Sync>(
             ensures { IfOk result (λ v. (seat_lines v.items ≡ seat_lines seats.items) × AreSeatsOf board.gauge.cell v.items) }
         { follow_all(rt, alloc, &board, seats, gate) },
         || -> Result<(Session, Outlet), NoMemory>
-            requires { StandAt rounds session × (outlet.writer.cell ≡ board.gauge.cell) × IsTold outlet (state_of session) false }
+            requires { StandAt rounds session × (outlet.writer.cell ≡ board.gauge.cell) × HasPublished outlet (state_of session) false }
             ensures { IfOk result (λ r. HasRun session.inputs rounds.seed rounds.turns outlet r.0 r.1) }
         {
             let ran = run(rt, &board, rounds, session, outlet, gate);
@@ -188,7 +188,7 @@ fn view_on<R: Threads + Wait + Sync, G: Gate + Sync>(
     harts: u32,
     gate: &G,
 ) -> Result<Vec<u8>, NoMemory>
-    requires begun { session ≡ begun session.inputs }
+    requires begun { session ≡ new_session session.inputs }
     requires harts { harts ≡ session.inputs.settings.harts }
     requires few { harts ≤ MAX_HARTS }
     requires turns { (1 ≤ course.turns) × (course.turns ≤ MAX_QUANTUM) }

@@ -19,9 +19,9 @@ pub struct Sight {
 pub struct Rising;
 
 impl Protocol<Reading, Sight> for Rising {
-    ghost use Rattle.visi_run.specs.Sights.{Kept, opening_sight};
+    ghost use Rattle.visi_run.specs.Sights.{GaugeRule, opening_sight};
 
-    ghost holds = { Kept };
+    ghost holds = { GaugeRule };
 
     ghost first = { opening_sight };
 }
@@ -42,9 +42,9 @@ impl Split<Sight> for Admits {
 pub struct Leaves;
 
 impl Split<Sight> for Leaves {
-    ghost use Rattle.visi_run.specs.Sights.{spent};
+    ghost use Rattle.visi_run.specs.Sights.{empty_pass};
 
-    ghost left = { λ v. spent };
+    ghost left = { λ v. empty_pass };
 
     ghost right = { λ v. v };
 }
@@ -53,11 +53,11 @@ impl Split<Sight> for Leaves {
 pub struct Meets;
 
 impl Join<Sight> for Meets {
-    ghost use Rattle.visi_run.specs.Sights.{together, spent};
+    ghost use Rattle.visi_run.specs.Sights.{together, empty_pass};
 
     ghost both = { together };
 
-    ghost spent = { spent };
+    ghost spent = { empty_pass };
 }
 
 /// The step by which the writer sets a reading.

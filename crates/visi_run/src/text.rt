@@ -6,7 +6,7 @@ ghost use Rattle.visi_run.specs.Texts.{first_count, line_at, sample_line, view_t
 
 use pn_types::{NoMemory, Text};
 use report::ShownPart;
-use session_spec::Latest;
+use session_spec::LatestSample;
 use std::alloc::Global;
 
 /// Appends a metric's name and a focus.
@@ -23,7 +23,7 @@ fn add_sample_of(
     alloc: Global,
     out: &mut Vec<u8>,
     part: &ShownPart,
-    sample: &Latest,
+    sample: &LatestSample,
 ) -> Result<(), NoMemory>
     ensures { OnOk result (out.new.items ≡ out.old.items ++ line_at part.now sample.now) }
 {
@@ -41,7 +41,7 @@ fn add_sample(
     alloc: Global,
     out: &mut Vec<u8>,
     shown: &[ShownPart],
-    sample: &Latest,
+    sample: &LatestSample,
 ) -> Result<(), NoMemory>
     ensures { OnOk result (out.new.items ≡ out.old.items ++ sample_line shown.now sample.now) }
 {
@@ -56,7 +56,7 @@ fn add_samples(
     alloc: Global,
     out: &mut Vec<u8>,
     shown: &[ShownPart],
-    samples: &[Latest],
+    samples: &[LatestSample],
 ) -> Result<(), NoMemory>
     ensures { OnOk result (out.new.items ≡ out.old.items ++ flat_map (sample_line shown.now) samples.now) }
 {
@@ -72,7 +72,7 @@ fn add_view(
     out: &mut Vec<u8>,
     shown: &[ShownPart],
     number: usize,
-    samples: &[Latest],
+    samples: &[LatestSample],
 ) -> Result<(), NoMemory>
     ensures { OnOk result (out.new.items ≡ out.old.items ++ view_text shown.now number samples.now) }
 {
@@ -86,7 +86,7 @@ fn add_views(
     alloc: Global,
     out: &mut Vec<u8>,
     shown: &[ShownPart],
-    lists: &[Vec<Latest>],
+    lists: &[Vec<LatestSample>],
 ) -> Result<(), NoMemory>
     ensures { OnOk result (out.new.items ≡ out.old.items ++ view_texts shown.now 0 (map (λ v. v.items) lists.now)) }
 {
@@ -97,7 +97,7 @@ fn add_views(
 }
 
 /// Returns how many samples the first view was given.
-pub fn count_first(lists: &[Vec<Latest>]) -> usize
+pub fn count_first(lists: &[Vec<LatestSample>]) -> usize
     ensures { result ≡ first_count (map (λ v. v.items) lists.now) }
 {
     match lists.first() {
@@ -107,7 +107,7 @@ pub fn count_first(lists: &[Vec<Latest>]) -> usize
 }
 
 /// Appends the numbers of the views and of the samples.
-fn add_counts(alloc: Global, out: &mut Vec<u8>, lists: &[Vec<Latest>]) -> Result<(), NoMemory>
+fn add_counts(alloc: Global, out: &mut Vec<u8>, lists: &[Vec<LatestSample>]) -> Result<(), NoMemory>
     ensures { OnOk result (out.new.items ≡ out.old.items ++ views_line (map (λ v. v.items) lists.now)) }
 {
     let views = lists.len();
@@ -124,7 +124,7 @@ fn add_counts(alloc: Global, out: &mut Vec<u8>, lists: &[Vec<Latest>]) -> Result
 pub fn visi_text(
     alloc: Global,
     shown: &[ShownPart],
-    lists: &[Vec<Latest>],
+    lists: &[Vec<LatestSample>],
 ) -> Result<Vec<u8>, NoMemory>
     ensures { IfOk result (λ text. text.items ≡ visi_text shown.now (map (λ v. v.items) lists.now)) }
 {

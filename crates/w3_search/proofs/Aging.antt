@@ -7,7 +7,7 @@ use Rattle.w3_axes.specs.Refining.{children, roots}
 use Rattle.w3_search.specs.declared.node.Node.{Node}
 use Rattle.w3_search.specs.declared.node.NodeState.TheVariants.{Confirmed}
 use Rattle.w3_search.specs.declared.place.NodePlace.{NodePlace}
-use Rattle.w3_search.specs.Nodes.{is_same_place, place, place_of, stands, most_nodes}
+use Rattle.w3_search.specs.Nodes.{is_same_place, place, place_of, has_place, most_nodes}
 use Rattle.w3_search.specs.Steps.{Rules, SearchData}
 use Rattle.w3_search.specs.History.{In, Lineage, lineage_of, IsRoot, IsChild, IsHistory}
 use Rattle.w3_search.proofs.Pairs.{OneAged, Pairs, pairs_back, pairs_forth, pairs_length}
@@ -21,9 +21,9 @@ pub record Going (r : Rules) (present : ℕ) (ns : List Node) (owed left : List 
   pub begun : (i : ℕ) (n : Node) → slice_get ns i ≡ Some n → n.phase ≤ present
   pub origin : (i : ℕ) (n : Node) → slice_get ns i ≡ Some n → IsRoot r (lineage_of n) ⊎ IsChild r ns i (lineage_of n)
   pub apart : (i j : ℕ) (m n : Node) → slice_get ns i ≡ Some m → slice_get ns j ≡ Some n → place_of m ≡ place_of n → i ≡ j
-  pub roots : length ns < most_nodes → (q h : ℕ) → q ≤ present → In h (roots r.hypotheses) → ((q ≡ present) × In h left) ⊎ (stands (place q h foci.root) ns ≡ true)
+  pub roots : length ns < most_nodes → (q h : ℕ) → q ≤ present → In h (roots r.hypotheses) → ((q ≡ present) × In h left) ⊎ (has_place (place q h foci.root) ns ≡ true)
   pub families : length ns < most_nodes → (i : ℕ) (n : Node) → slice_get ns i ≡ Some n → n.state ≡ Confirmed
-      → In i owed ⊎ ((h : ℕ) (f : Focus) → In (h, f) (children r.hypotheses r.tree n.hypothesis n.focus) → stands (place n.phase h f) ns ≡ true)
+      → In i owed ⊎ ((h : ℕ) (f : Focus) → In (h, f) (children r.hypotheses r.tree n.hypothesis n.focus) → has_place (place n.phase h f) ns ≡ true)
 
 pub whole : (v : SearchData) → Going v.rules v.present v.nodes [] [] → IsHistory v
 whole v g = record {
@@ -45,12 +45,12 @@ going v g = record {
 
 -- ---- nodes in other states
 
-places_same : (C : Node → Type 0) (ns ms : List Node) → Pairs (OneAged C) ns ms → (p : NodePlace) → stands p ms ≡ stands p ns
+places_same : (C : Node → Type 0) (ns ms : List Node) → Pairs (OneAged C) ns ms → (p : NodePlace) → has_place p ms ≡ has_place p ns
 places_same C [] [] a p = refl
 places_same C [] (m ∷ ms) a p = absurd a
 places_same C (n ∷ ns) [] a p = absurd a
 places_same C (n ∷ ns) (m ∷ ms) a p =
-    ap (λ (s : Lineage). is_same_place p (place_at s) || stands p ms) a.0.same ∙ ap (λ (b : Bool). is_same_place p (place_of n) || b) (places_same C ns ms a.1 p)
+    ap (λ (s : Lineage). is_same_place p (place_at s) || has_place p ms) a.0.same ∙ ap (λ (b : Bool). is_same_place p (place_of n) || b) (places_same C ns ms a.1 p)
 
 pub aged : (C : Node → Type 0) (r : Rules) (present : ℕ) (ns ms : List Node) (owed more left : List ℕ) → Going r present ns owed left → Pairs (OneAged C) ns ms
     → ((i : ℕ) (n m : Node) → slice_get ns i ≡ Some n → slice_get ms i ≡ Some m → C n → m.state ≡ Confirmed → In i more) → ((i : ℕ) → In i owed → In i more) → Going r present ms more left
@@ -84,7 +84,7 @@ aged C r present ns ms owed more left g a anew kept = record {
         | inl old ↦ elim (g.families (omega arith) i b.0 b.1 old) [
           | inl x ↦ inl (kept i x)
           | inr y ↦ inr (λ h f c.
-              subst (λ (s : Lineage). stands (place s.phase h f) ms ≡ true) (sym b.2.same)
+              subst (λ (s : Lineage). has_place (place s.phase h f) ms ≡ true) (sym b.2.same)
               (places_same C ns ms a (place b.0.phase h f) ∙ y h f (subst (λ (s : Lineage). In (h, f) (children r.hypotheses r.tree s.hypothesis s.focus)) b.2.same c)))
         ]
         | inr new ↦ inl (anew i b.0 m b.1 e new s)

@@ -16,9 +16,9 @@ use Rattle.w3_search.specs.declared.node.NodeSample.{NodeSample}
 use Rattle.w3_search.specs.declared.node.NodeState.{NodeState}
 use Rattle.w3_search.specs.declared.node.NodeState.TheVariants.{Waiting, Active, Confirmed, Rejected, Barred, Unfinished}
 use Rattle.w3_search.specs.declared.place.NodePlace.{NodePlace}
-use Rattle.w3_search.specs.Nodes.{changed, is_active, is_confirmed, is_free, is_open, is_same_place, is_waiting, new_node, place, place_of, sampled, stands, with_node, most_nodes}
+use Rattle.w3_search.specs.Nodes.{with_node_changed, is_active, is_confirmed, is_free, is_open, is_same_place, is_waiting, new_node, place, place_of, sampled, has_place, with_node, most_nodes}
 use Rattle.w3_search.specs.History.{AllOpen, AreFew}
-use Rattle.w3_search.specs.Steps.{SearchData, begun, is_due, judged, may_take, with_children, with_family_of, with_phases, with_roots, with_sample}
+use Rattle.w3_search.specs.Steps.{SearchData, with_next_phase, is_due, with_verdict, may_take, with_children, with_family_of, with_phases, with_roots, with_sample}
 
 -- ---- look-ups
 
@@ -33,35 +33,35 @@ got (x ∷ ns) zero n d e = (cc, omega arith)
 got (x ∷ ns) (suc i) n d e = let r = got ns i n d e in (r.0, omega (arith, r.1))
 
 -- the places of the index are those of the nodes
-pub any_places : (p : NodePlace) (ns : List Node) → list_any (is_same_place p) (map place_of ns) ≡ stands p ns
+pub any_places : (p : NodePlace) (ns : List Node) → list_any (is_same_place p) (map place_of ns) ≡ has_place p ns
 any_places p [] = refl
 any_places p (n ∷ ns) = ap (λ (b : Bool). is_same_place p (place_of n) || b) (any_places p ns)
 
 -- a place that is free: there is room, and it isn't taken
-pub free_parts : (p : NodePlace) (ns : List Node) → is_free p ns ≡ true → (length ns < most_nodes) × (stands p ns ≡ false)
+pub free_parts : (p : NodePlace) (ns : List Node) → is_free p ns ≡ true → (length ns < most_nodes) × (has_place p ns ≡ false)
 free_parts p ns e =
-    let both = and_parts (nat_lt (length ns) most_nodes) (not (stands p ns)) e in
-    (ltb-true (length ns) most_nodes both.0, not-true (stands p ns) both.1)
+    let both = and_parts (nat_lt (length ns) most_nodes) (not (has_place p ns)) e in
+    (ltb-true (length ns) most_nodes both.0, not-true (has_place p ns) both.1)
 
 -- ---- changes keep places
 
-pub changed_set : (f : Node → Node) (ns : List Node) (i : ℕ) (d : Node) → set ns i (f (get_or ns i d)) ≡ changed f i ns
+pub changed_set : (f : Node → Node) (ns : List Node) (i : ℕ) (d : Node) → set ns i (f (get_or ns i d)) ≡ with_node_changed f i ns
 changed_set f [] i d = refl
 changed_set f (n ∷ ns) zero d = refl
 changed_set f (n ∷ ns) (suc i) d = ap (λ (l : List Node). n ∷ l) (changed_set f ns i d)
 
 -- no node has that number
-pub changed_past : (f : Node → Node) (ns : List Node) (i : ℕ) → length ns ≤ i → changed f i ns ≡ ns
+pub changed_past : (f : Node → Node) (ns : List Node) (i : ℕ) → length ns ≤ i → with_node_changed f i ns ≡ ns
 changed_past f [] i past = refl
 changed_past f (n ∷ ns) zero past = (let no : ⊥ = omega (arith, past) in absurd no)
 changed_past f (n ∷ ns) (suc i) past = ap (λ (l : List Node). n ∷ l) (changed_past f ns i (omega (arith, past)))
 
-pub length_changed : (f : Node → Node) (ns : List Node) (i : ℕ) → length (changed f i ns) ≡ length ns
+pub length_changed : (f : Node → Node) (ns : List Node) (i : ℕ) → length (with_node_changed f i ns) ≡ length ns
 length_changed f [] i = refl
 length_changed f (n ∷ ns) zero = refl
 length_changed f (n ∷ ns) (suc i) = ap suc (length_changed f ns i)
 
-pub places_changed : (f : Node → Node) → ((n : Node) → place_of (f n) ≡ place_of n) → (ns : List Node) (i : ℕ) → map place_of (changed f i ns) ≡ map place_of ns
+pub places_changed : (f : Node → Node) → ((n : Node) → place_of (f n) ≡ place_of n) → (ns : List Node) (i : ℕ) → map place_of (with_node_changed f i ns) ≡ map place_of ns
 places_changed f h [] i = refl
 places_changed f h (n ∷ ns) zero = ap (λ (p : NodePlace). p ∷ map place_of ns) (h n)
 places_changed f h (n ∷ ns) (suc i) = ap (λ (ps : List NodePlace). place_of n ∷ ps) (places_changed f h ns i)
@@ -86,7 +86,7 @@ module _ (P : Node → Type 0) where
   open_got (n ∷ ns) zero d all l o = all.0 o
   open_got (n ∷ ns) (suc i) d all l o = open_got ns i d all.1 (omega (arith, l)) o
 
-  pub open_changed : (f : Node → Node) (ns : List Node) (i : ℕ) (n : Node) → AllOpen P ns → slice_get ns i ≡ Some n → (is_open (f n).state ≡ true → P (f n)) → AllOpen P (changed f i ns)
+  pub open_changed : (f : Node → Node) (ns : List Node) (i : ℕ) (n : Node) → AllOpen P ns → slice_get ns i ≡ Some n → (is_open (f n).state ≡ true → P (f n)) → AllOpen P (with_node_changed f i ns)
   open_changed f [] i n all e h = all
   open_changed f (x ∷ ns) zero n all e h =
       let s : n ≡ x = cc in
@@ -95,7 +95,7 @@ module _ (P : Node → Type 0) where
 
   -- a change that keeps it
   pub open_kept : (f : Node → Node) → ((n : Node) → (is_open n.state ≡ true → P n) → is_open (f n).state ≡ true → P (f n))
-      → (ns : List Node) (i : ℕ) → AllOpen P ns → AllOpen P (changed f i ns)
+      → (ns : List Node) (i : ℕ) → AllOpen P ns → AllOpen P (with_node_changed f i ns)
   open_kept f keeps [] i all = all
   open_kept f keeps (n ∷ ns) zero all = (keeps n all.0, all.1)
   open_kept f keeps (n ∷ ns) (suc i) all = (all.0, open_kept f keeps ns i all.1)
@@ -136,8 +136,8 @@ active_open (Unfinished m) e = cc
 -- a node that is open after a sample has fewer than the window asks for
 pub few_sampled : (hs : List Hypothesis) (window t : ℕ) (s : NodeSample) (ns : List Node) → AreFew window ns → AreFew window (with_sample hs window t s ns)
 few_sampled hs window t s ns few =
-    open_kept (λ (n : Node). n.seen < window) (λ n. cond (may_take s n) (judged hs window (sampled t s n)) n) (λ n before.
-    let now = judged hs window (sampled t s n) in
+    open_kept (λ (n : Node). n.seen < window) (λ n. cond (may_take s n) (with_verdict hs window (sampled t s n)) n) (λ n before.
+    let now = with_verdict hs window (sampled t s n) in
     cond_both (may_take s n) now n (λ (m : Node). is_open m.state ≡ true → m.seen < window)
     (λ takes o.
     let less : n.seen < window = before (active_open n.state (and_parts (is_active n.state) (nat_lt (n.ticks + s.ticks) (2 ^ 64)) takes).0) in
@@ -167,16 +167,16 @@ module _ (P : List Node → Type 0) where
 -- ---- phases
 
 -- a phase that is due begins
-pub begins : (t : ℕ) (ps : List PhaseDecl) (v : SearchData) → is_due t ps ≡ true → with_phases t ps v ≡ with_phases t (drop 1 ps) (begun v)
+pub begins : (t : ℕ) (ps : List PhaseDecl) (v : SearchData) → is_due t ps ≡ true → with_phases t ps v ≡ with_phases t (drop 1 ps) (with_next_phase v)
 begins t [] v e = cc
-begins t (p ∷ ps) v e = cond-true (nat_le p.at t) (with_phases t ps (begun v)) v e
+begins t (p ∷ ps) v e = cond-true (nat_le p.at t) (with_phases t ps (with_next_phase v)) v e
 
 pub one_more : (k : ℕ) (ps : List PhaseDecl) → drop 1 (drop k ps) ≡ drop (k + 1) ps
 one_more k ps = drop-drop 1 k ps
 
 pub ends : (t : ℕ) (ps : List PhaseDecl) (v : SearchData) → is_due t ps ≡ false → with_phases t ps v ≡ v
 ends t [] v e = refl
-ends t (p ∷ ps) v e = cond-false (nat_le p.at t) (with_phases t ps (begun v)) v e
+ends t (p ∷ ps) v e = cond-false (nat_le p.at t) (with_phases t ps (with_next_phase v)) v e
 
 pub due_within : (t k : ℕ) (ps : List PhaseDecl) → is_due t (drop k ps) ≡ true → k < length ps
 due_within t k ps e =

@@ -14,7 +14,7 @@ use Rattle.w3_search.specs.declared.node.NodeState.{NodeState}
 use Rattle.w3_search.specs.declared.node.NodeState.TheVariants.{Confirmed}
 use Rattle.w3_search.specs.declared.place.NodePlace.{NodePlace}
 use Rattle.resource_tree.specs.SameNodes.{is_same_code, is_same_number}
-use Rattle.w3_search.specs.Nodes.{is_free, is_same_place, is_confirmed, new_node, place, place_of, stands, with_node, most_nodes}
+use Rattle.w3_search.specs.Nodes.{is_free, is_same_place, is_confirmed, new_node, place, place_of, has_place, with_node, most_nodes}
 use Rattle.w3_search.specs.Steps.{Rules, with_children, with_family, with_family_of, with_families, with_roots}
 use Rattle.w3_search.specs.History.{In, Lineage, lineage_of, IsRoot, IsChild}
 use Rattle.w3_search.proofs.Changes.{free_parts, got}
@@ -46,44 +46,44 @@ same_place : (p : NodePlace) → is_same_place p p ≡ true
 same_place p =
     and_from _ _ (eq-eqb p.phase p.phase refl) (and_from _ _ (eq-eqb p.hypothesis p.hypothesis refl) (and_from _ _ (same_code p.code) (and_from _ _ (same_number p.hart) (same_number p.object))))
 
-stands_push : (p : NodePlace) (ns : List Node) (n : Node) → stands p ns ≡ true → stands p (ns ++ n ∷ []) ≡ true
+stands_push : (p : NodePlace) (ns : List Node) (n : Node) → has_place p ns ≡ true → has_place p (ns ++ n ∷ []) ≡ true
 stands_push p ns n e = list_any-append (λ (m : Node). is_same_place p (place_of m)) ns (n ∷ []) ∙ or_left _ _ e
 
-stands_new : (p : NodePlace) (ns : List Node) (n : Node) → p ≡ place_of n → stands p (ns ++ n ∷ []) ≡ true
+stands_new : (p : NodePlace) (ns : List Node) (n : Node) → p ≡ place_of n → has_place p (ns ++ n ∷ []) ≡ true
 stands_new p ns n e =
     list_any-append (λ (m : Node). is_same_place p (place_of m)) ns (n ∷ [])
     ∙ or_right _ _ (or_left _ _ (ap (is_same_place p) (sym e) ∙ same_place p))
 
 -- who stands at a place is found there
-stands_at : (p : NodePlace) (ns : List Node) (i : ℕ) (m : Node) → slice_get ns i ≡ Some m → place_of m ≡ p → stands p ns ≡ true
+stands_at : (p : NodePlace) (ns : List Node) (i : ℕ) (m : Node) → slice_get ns i ≡ Some m → place_of m ≡ p → has_place p ns ≡ true
 stands_at p [] i m e s = cc
 stands_at p (x ∷ ns) zero m e s =
     let y : place_of x ≡ p = ap place_of (let k : x ≡ m = cc in k) ∙ s in
     or_left _ _ (ap (is_same_place p) y ∙ same_place p)
 stands_at p (x ∷ ns) (suc i) m e s = or_right _ _ (stands_at p ns i m e s)
 
-pub with_node_stands : (q : ℕ) (parent : Option ℕ) (h : ℕ) (f : Focus) (p : NodePlace) (ns : List Node) → stands p ns ≡ true → stands p (with_node q parent h f ns) ≡ true
+pub with_node_stands : (q : ℕ) (parent : Option ℕ) (h : ℕ) (f : Focus) (p : NodePlace) (ns : List Node) → has_place p ns ≡ true → has_place p (with_node q parent h f ns) ≡ true
 with_node_stands q parent h f p ns e =
-    cond_both (is_free (place q h f) ns) (ns ++ new_node q parent h f ∷ []) ns (λ (l : List Node). stands p l ≡ true) (λ _. stands_push p ns (new_node q parent h f) e) (λ _. e)
+    cond_both (is_free (place q h f) ns) (ns ++ new_node q parent h f ∷ []) ns (λ (l : List Node). has_place p l ≡ true) (λ _. stands_push p ns (new_node q parent h f) e) (λ _. e)
 
 pub with_node_length : (q : ℕ) (parent : Option ℕ) (h : ℕ) (f : Focus) (ns : List Node) → length ns ≤ length (with_node q parent h f ns)
 with_node_length q parent h f ns =
     cond_both (is_free (place q h f) ns) (ns ++ new_node q parent h f ∷ []) ns (λ (l : List Node). length ns ≤ length l) (λ _. omega (arith, length_push ns (new_node q parent h f))) (λ _. omega arith)
 
 -- it stands there afterwards, where there was room
-pub with_node_there : (q : ℕ) (parent : Option ℕ) (h : ℕ) (f : Focus) (ns : List Node) → length (with_node q parent h f ns) < most_nodes → stands (place q h f) (with_node q parent h f ns) ≡ true
+pub with_node_there : (q : ℕ) (parent : Option ℕ) (h : ℕ) (f : Focus) (ns : List Node) → length (with_node q parent h f ns) < most_nodes → has_place (place q h f) (with_node q parent h f ns) ≡ true
 with_node_there q parent h f ns l = by (cases_Bool (is_free (place q h f) ns))
   where
-    by : (is_free (place q h f) ns ≡ true) ⊎ (is_free (place q h f) ns ≡ false) → stands (place q h f) (with_node q parent h f ns) ≡ true
+    by : (is_free (place q h f) ns ≡ true) ⊎ (is_free (place q h f) ns ≡ false) → has_place (place q h f) (with_node q parent h f ns) ≡ true
     by (inl allowed) =
-        subst (λ (m : List Node). stands (place q h f) m ≡ true) (sym (cond-true (is_free (place q h f) ns) (ns ++ new_node q parent h f ∷ []) ns allowed)) (stands_new (place q h f) ns (new_node q parent h f) refl)
+        subst (λ (m : List Node). has_place (place q h f) m ≡ true) (sym (cond-true (is_free (place q h f) ns) (ns ++ new_node q parent h f ∷ []) ns allowed)) (stands_new (place q h f) ns (new_node q parent h f) refl)
     by (inr not_free) =
         let e : with_node q parent h f ns ≡ ns = cond-false (is_free (place q h f) ns) (ns ++ new_node q parent h f ∷ []) ns not_free in
         let few : length ns < most_nodes = subst (λ (m : List Node). length m < most_nodes) e l in
-        subst (λ (m : List Node). stands (place q h f) m ≡ true) (sym e)
-        (elim (and_cases (nat_lt (length ns) most_nodes) (not (stands (place q h f) ns)) not_free) [
+        subst (λ (m : List Node). has_place (place q h f) m ≡ true) (sym e)
+        (elim (and_cases (nat_lt (length ns) most_nodes) (not (has_place (place q h f) ns)) not_free) [
           | inl full ↦ absurd (omega (arith, ltb-false (length ns) most_nodes full))
-          | inr taken ↦ not-false (stands (place q h f) ns) taken
+          | inr taken ↦ not-false (has_place (place q h f) ns) taken
         ])
 
 -- ---- the history
@@ -104,7 +104,7 @@ child_kept r ns n i s c = record {
   child = c.child;
 }
 
-pushed : (r : Rules) (present : ℕ) (ns : List Node) (owed left : List ℕ) (n : Node) → Going r present ns owed left → n.phase ≤ present → (n.state ≡ Confirmed → ⊥) → Comes r ns (lineage_of n) → stands (place_of n) ns ≡ false → length ns < most_nodes
+pushed : (r : Rules) (present : ℕ) (ns : List Node) (owed left : List ℕ) (n : Node) → Going r present ns owed left → n.phase ≤ present → (n.state ≡ Confirmed → ⊥) → Comes r ns (lineage_of n) → has_place (place_of n) ns ≡ false → length ns < most_nodes
     → Going r present (ns ++ n ∷ []) owed left
 pushed r present ns owed left n g phase waits comes free room = record {
   begun = λ i m e. elim (get_push ns n i m e) [ inl old ↦ g.begun i m old | inr new ↦ subst (λ (k : Node). k.phase ≤ present) (sym new.1) phase ];
@@ -150,7 +150,7 @@ parent_kept q parent h f ns i n p =
     cond_both (is_free (place q h f) ns) (ns ++ new_node q parent h f ∷ []) ns (λ (l : List Node). Parent l i n)
     (λ _. record { there = get_kept ns (new_node q parent h f) i n p.there; confirmed = p.confirmed }) (λ _. p)
 
-children_stand : (q i : ℕ) (ks : List (ℕ × Focus)) (p : NodePlace) (ns : List Node) → stands p ns ≡ true → stands p (with_children q i ks ns) ≡ true
+children_stand : (q i : ℕ) (ks : List (ℕ × Focus)) (p : NodePlace) (ns : List Node) → has_place p ns ≡ true → has_place p (with_children q i ks ns) ≡ true
 children_stand q i [] p ns e = e
 children_stand q i (k ∷ ks) p ns e = children_stand q i ks p (with_node q (Some i) k.0 k.1 ns) (with_node_stands q (Some i) k.0 k.1 p ns e)
 
@@ -159,13 +159,13 @@ children_length q i [] ns = omega arith
 children_length q i (k ∷ ks) ns = omega (arith, with_node_length q (Some i) k.0 k.1 ns, children_length q i ks (with_node q (Some i) k.0 k.1 ns))
 
 -- these children stand, where there was room
-children_there : (q i : ℕ) (ks : List (ℕ × Focus)) (ns : List Node) → length (with_children q i ks ns) < most_nodes → (h : ℕ) (f : Focus) → In (h, f) ks → stands (place q h f) (with_children q i ks ns) ≡ true
+children_there : (q i : ℕ) (ks : List (ℕ × Focus)) (ns : List Node) → length (with_children q i ks ns) < most_nodes → (h : ℕ) (f : Focus) → In (h, f) ks → has_place (place q h f) (with_children q i ks ns) ≡ true
 children_there q i [] ns l h f c = absurd c
 children_there q i (k ∷ ks) ns l h f (inl e) =
     let m = with_node q (Some i) k.0 k.1 ns in
     let room : length m < most_nodes = omega (arith, children_length q i ks m) in
     let same : place q h f ≡ place q k.0 k.1 = ap (λ (x : ℕ × Focus). place q x.0 x.1) e in
-    children_stand q i ks (place q h f) m (subst (λ (p : NodePlace). stands p m ≡ true) (sym same) (with_node_there q (Some i) k.0 k.1 ns room))
+    children_stand q i ks (place q h f) m (subst (λ (p : NodePlace). has_place p m ≡ true) (sym same) (with_node_there q (Some i) k.0 k.1 ns room))
 children_there q i (k ∷ ks) ns l h f (inr c) = children_there q i ks (with_node q (Some i) k.0 k.1 ns) l h f c
 
 children_going : (r : Rules) (present : ℕ) (ks : List (ℕ × Focus)) (ns : List Node) (owed left : List ℕ) (i : ℕ) (n : Node) → Going r present ns owed left → Parent ns i n
@@ -193,7 +193,7 @@ confirmed_is _ e = cc
 
 -- a node owes no more
 paid : (r : Rules) (present : ℕ) (ns : List Node) (i : ℕ) (owed left : List ℕ) → Going r present ns (i ∷ owed) left
-    → (length ns < most_nodes → (n : Node) → slice_get ns i ≡ Some n → n.state ≡ Confirmed → (h : ℕ) (f : Focus) → In (h, f) (children r.hypotheses r.tree n.hypothesis n.focus) → stands (place n.phase h f) ns ≡ true)
+    → (length ns < most_nodes → (n : Node) → slice_get ns i ≡ Some n → n.state ≡ Confirmed → (h : ℕ) (f : Focus) → In (h, f) (children r.hypotheses r.tree n.hypothesis n.focus) → has_place (place n.phase h f) ns ≡ true)
     → Going r present ns owed left
 paid r present ns i owed left g done = record {
   begun = g.begun;
@@ -224,7 +224,7 @@ family_going r present ns i (Some n) owed left e g = by (cases_Bool (is_confirme
         (paid r present (with_children n.phase i (children r.hypotheses r.tree n.hypothesis n.focus) ns) i owed left all.0
         (λ l m f s h at c.
         let same : m ≡ n = (let k : Some m ≡ Some n = sym f ∙ all.1.there in cc) in
-        subst (λ (x : Node). stands (place x.phase h at) (with_children n.phase i (children r.hypotheses r.tree n.hypothesis n.focus) ns) ≡ true) (sym same)
+        subst (λ (x : Node). has_place (place x.phase h at) (with_children n.phase i (children r.hypotheses r.tree n.hypothesis n.focus) ns) ≡ true) (sym same)
         (children_there n.phase i (children r.hypotheses r.tree n.hypothesis n.focus) ns l h at (subst (λ (x : Node). In (h, at) (children r.hypotheses r.tree x.hypothesis x.focus)) same c))))
     by (inr other) =
         subst (λ (m : List Node). Going r present m owed left) (sym (cond-false (is_confirmed n.state) (with_children n.phase i (children r.hypotheses r.tree n.hypothesis n.focus) ns) ns other))
@@ -253,7 +253,7 @@ roots_going r present (h ∷ hs) ns g sub =
       apart = g'.apart;
       roots = λ l q k b i. elim (g'.roots l q k b i) [
         | inl x ↦ elim x.1 [
-          | inl here ↦ inr (subst (λ (j : ℕ). stands (place j k foci.root) m ≡ true) (sym x.0) (subst (λ (j : ℕ). stands (place present j foci.root) m ≡ true) (sym here) (with_node_there present None h foci.root ns l)))
+          | inl here ↦ inr (subst (λ (j : ℕ). has_place (place j k foci.root) m ≡ true) (sym x.0) (subst (λ (j : ℕ). has_place (place present j foci.root) m ≡ true) (sym here) (with_node_there present None h foci.root ns l)))
           | inr more ↦ inl (x.0, more)
         ]
         | inr y ↦ inr y

@@ -5,7 +5,7 @@ use Rattle.std.specs.List.{AllByRecursion}
 use Rattle.std.proofs.lemmas.Bool.{cond_both, le-ltb, lt-ltb, ne_eqb}
 use Rattle.w3_search.specs.declared.node.Node.{Node}
 use Rattle.w3_search.specs.Index.{inserted, without}
-use Rattle.w3_search.specs.Nodes.{changed, numbers_from}
+use Rattle.w3_search.specs.Nodes.{with_node_changed, numbers_from}
 
 module _ (p : Node → Bool) where
   -- one more node
@@ -48,7 +48,7 @@ module _ (p : Node → Bool) where
       subst (λ (j : ℕ). AllByRecursion (λ k. k < j) (numbers_from p 0 ns)) z (numbers_below 0 ns)
 
   -- a changed node that passes as before
-  pub numbers_stay : (f : Node → Node) (ns : List Node) (i k : ℕ) (n : Node) → slice_get ns i ≡ Some n → p (f n) ≡ p n → numbers_from p k (changed f i ns) ≡ numbers_from p k ns
+  pub numbers_stay : (f : Node → Node) (ns : List Node) (i k : ℕ) (n : Node) → slice_get ns i ≡ Some n → p (f n) ≡ p n → numbers_from p k (with_node_changed f i ns) ≡ numbers_from p k ns
   numbers_stay f [] i k n e same = refl
   numbers_stay f (x ∷ ns) zero k n e same =
       let s : x ≡ n = cc in
@@ -56,7 +56,7 @@ module _ (p : Node → Bool) where
   numbers_stay f (x ∷ ns) (suc i) k n e same = ap (λ (l : List ℕ). cond (p x) (k ∷ l) l) (numbers_stay f ns i (k + 1) n e same)
 
   -- a changed node that passes no more
-  pub numbers_leave : (f : Node → Node) (ns : List Node) (i k : ℕ) (n : Node) → slice_get ns i ≡ Some n → p n ≡ true → p (f n) ≡ false → numbers_from p k (changed f i ns) ≡ without (k + i) (numbers_from p k ns)
+  pub numbers_leave : (f : Node → Node) (ns : List Node) (i k : ℕ) (n : Node) → slice_get ns i ≡ Some n → p n ≡ true → p (f n) ≡ false → numbers_from p k (with_node_changed f i ns) ≡ without (k + i) (numbers_from p k ns)
   numbers_leave f [] i k n e a b = cc
   numbers_leave f (x ∷ ns) zero k n e a b =
       let s : x ≡ n = cc in
@@ -69,8 +69,8 @@ module _ (p : Node → Bool) where
       j : (k + 1) + i ≡ k + suc i
       j = omega arith
 
-      by : (c : Bool) → numbers_from p (k + 1) (changed f i ns) ≡ without ((k + 1) + i) (numbers_from p (k + 1) ns)
-          → cond c (k ∷ numbers_from p (k + 1) (changed f i ns)) (numbers_from p (k + 1) (changed f i ns)) ≡ without (k + suc i) (cond c (k ∷ numbers_from p (k + 1) ns) (numbers_from p (k + 1) ns))
+      by : (c : Bool) → numbers_from p (k + 1) (with_node_changed f i ns) ≡ without ((k + 1) + i) (numbers_from p (k + 1) ns)
+          → cond c (k ∷ numbers_from p (k + 1) (with_node_changed f i ns)) (numbers_from p (k + 1) (with_node_changed f i ns)) ≡ without (k + suc i) (cond c (k ∷ numbers_from p (k + 1) ns) (numbers_from p (k + 1) ns))
       by true h =
           ap (λ (l : List ℕ). k ∷ l) (h ∙ ap (λ (q : ℕ). without q (numbers_from p (k + 1) ns)) j)
           ∙ sym (ap (λ (d : Bool). cond d (numbers_from p (k + 1) ns) (k ∷ without (k + suc i) (numbers_from p (k + 1) ns))) (ne_eqb k (k + suc i) (λ (q : k ≡ k + suc i). omega arith)))
@@ -88,7 +88,7 @@ module _ (p : Node → Bool) where
       by false h = h
 
   -- a changed node that passes now
-  pub numbers_join : (f : Node → Node) (ns : List Node) (i k : ℕ) (n : Node) → slice_get ns i ≡ Some n → p n ≡ false → p (f n) ≡ true → numbers_from p k (changed f i ns) ≡ inserted (k + i) (numbers_from p k ns)
+  pub numbers_join : (f : Node → Node) (ns : List Node) (i k : ℕ) (n : Node) → slice_get ns i ≡ Some n → p n ≡ false → p (f n) ≡ true → numbers_from p k (with_node_changed f i ns) ≡ inserted (k + i) (numbers_from p k ns)
   numbers_join f [] i k n e a b = cc
   numbers_join f (x ∷ ns) zero k n e a b =
       let s : x ≡ n = cc in
@@ -103,8 +103,8 @@ module _ (p : Node → Bool) where
       j : (k + 1) + i ≡ k + suc i
       j = omega arith
 
-      by : (c : Bool) → numbers_from p (k + 1) (changed f i ns) ≡ inserted ((k + 1) + i) (numbers_from p (k + 1) ns)
-          → cond c (k ∷ numbers_from p (k + 1) (changed f i ns)) (numbers_from p (k + 1) (changed f i ns)) ≡ inserted (k + suc i) (cond c (k ∷ numbers_from p (k + 1) ns) (numbers_from p (k + 1) ns))
+      by : (c : Bool) → numbers_from p (k + 1) (with_node_changed f i ns) ≡ inserted ((k + 1) + i) (numbers_from p (k + 1) ns)
+          → cond c (k ∷ numbers_from p (k + 1) (with_node_changed f i ns)) (numbers_from p (k + 1) (with_node_changed f i ns)) ≡ inserted (k + suc i) (cond c (k ∷ numbers_from p (k + 1) ns) (numbers_from p (k + 1) ns))
       by true h =
           ap (λ (l : List ℕ). k ∷ l) (h ∙ ap (λ (q : ℕ). inserted q (numbers_from p (k + 1) ns)) j)
           ∙ sym (ap (λ (d : Bool). cond d (k ∷ inserted (k + suc i) (numbers_from p (k + 1) ns)) ((k + suc i) ∷ k ∷ numbers_from p (k + 1) ns)) (lt-ltb k (k + suc i) (omega arith)))

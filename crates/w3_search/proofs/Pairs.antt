@@ -12,8 +12,8 @@ use Rattle.w3_search.specs.declared.node.NodeState.{NodeState}
 use Rattle.w3_search.specs.declared.node.NodeState.TheVariants.{Waiting, Active, Confirmed, Rejected, Barred, Unfinished}
 use Rattle.w3_search.specs.declared.place.NodePlace.{NodePlace}
 use Rattle.w3_search.specs.History.{AreHere, In, Lineage, lineage_of}
-use Rattle.w3_search.specs.Nodes.{active_of, changed, is_active, is_active_at, is_open, is_waiting, numbers_from, place, place_of, sampled, waiting_of}
-use Rattle.w3_search.specs.Steps.{ended, judged, may_take, with_sample, with_samples}
+use Rattle.w3_search.specs.Nodes.{active_of, with_node_changed, is_active, is_active_at, is_open, is_waiting, numbers_from, place, place_of, sampled, waiting_of}
+use Rattle.w3_search.specs.Steps.{ended_tests, with_verdict, may_take, with_sample, with_samples}
 use Rattle.w3_search.proofs.Changes.{ruled_waiting}
 
 abbrev pub Pairs : (Node → Node → Type 0) → List Node → List Node → Type 0
@@ -31,7 +31,7 @@ module _ (R : Node → Node → Type 0) where
   pairs_same same [] = tt
   pairs_same same (n ∷ ns) = (same n, pairs_same same ns)
 
-  pub pairs_changed : ((n : Node) → R n n) → (f : Node → Node) (ns : List Node) (i : ℕ) → ((n : Node) → slice_get ns i ≡ Some n → R n (f n)) → Pairs R ns (changed f i ns)
+  pub pairs_changed : ((n : Node) → R n n) → (f : Node → Node) (ns : List Node) (i : ℕ) → ((n : Node) → slice_get ns i ≡ Some n → R n (f n)) → Pairs R ns (with_node_changed f i ns)
   pairs_changed same f [] i one = tt
   pairs_changed same f (n ∷ ns) zero one = (one n refl, pairs_same same ns)
   pairs_changed same f (n ∷ ns) (suc i) one = (same n, pairs_changed same f ns i one)
@@ -101,7 +101,7 @@ sampled_through l m n a b = record {
 }
 
 -- a node under test takes a sample
-taken : (hs : List Hypothesis) (window t : ℕ) (s : NodeSample) (n : Node) → n.state ≡ Active → OneSampled n (judged hs window (sampled t s n))
+taken : (hs : List Hypothesis) (window t : ℕ) (s : NodeSample) (n : Node) → n.state ≡ Active → OneSampled n (with_verdict hs window (sampled t s n))
 taken hs window t s n active = record {
   aged = record {
     same = refl;
@@ -114,8 +114,8 @@ taken hs window t s n active = record {
 
 one_sample : (hs : List Hypothesis) (window t : ℕ) (s : NodeSample) (ns : List Node) → Pairs OneSampled ns (with_sample hs window t s ns)
 one_sample hs window t s ns =
-    pairs_changed OneSampled sampled_same (λ n. cond (may_take s n) (judged hs window (sampled t s n)) n) ns s.node (λ n e.
-    cond_both (may_take s n) (judged hs window (sampled t s n)) n (OneSampled n)
+    pairs_changed OneSampled sampled_same (λ n. cond (may_take s n) (with_verdict hs window (sampled t s n)) n) ns s.node (λ n e.
+    cond_both (may_take s n) (with_verdict hs window (sampled t s n)) n (OneSampled n)
     (λ takes. taken hs window t s n (is_now n.state (and_parts (is_active n.state) (nat_lt (n.ticks + s.ticks) (2 ^ 64)) takes).0))
     (λ _. sampled_same n))
 
@@ -275,7 +275,7 @@ numbered p k i (n ∷ ns) h = by (p n) refl h (λ g. numbered p (k + 1) i ns g)
     by false e g rest = further (rest g)
 
 -- a node that was under test and is confirmed is among those that ended
-pub ended_in : (ns ms : List Node) (i : ℕ) (n m : Node) → slice_get ns i ≡ Some n → slice_get ms i ≡ Some m → n.state ≡ Active → m.state ≡ Confirmed → In i (ended ns ms)
+pub ended_in : (ns ms : List Node) (i : ℕ) (n m : Node) → slice_get ns i ≡ Some n → slice_get ms i ≡ Some m → n.state ≡ Active → m.state ≡ Confirmed → In i (ended_tests ns ms)
 ended_in ns ms i n m e f a c =
     let z : 0 + i ≡ i = omega arith in
     let listed : In i (active_of ns) = subst (λ (j : ℕ). In j (active_of ns)) z (in_numbers (λ n. is_active n.state) 0 ns i n e (active_is n.state a)) in
@@ -283,7 +283,7 @@ ended_in ns ms i n m e f a c =
     (ap not (sym (ap (is_active_at ms) z) ∙ found_active ms i m f ∙ ap is_active c))
 
 -- and those that ended were under test
-pub ended_was : (ns ms : List Node) (i : ℕ) (n : Node) → In i (ended ns ms) → slice_get ns i ≡ Some n → is_active n.state ≡ true
+pub ended_was : (ns ms : List Node) (i : ℕ) (n : Node) → In i (ended_tests ns ms) → slice_get ns i ≡ Some n → is_active n.state ≡ true
 ended_was ns ms i n h e =
     let r = numbered (λ n. is_active n.state) 0 i ns (out_filter (λ j. not (is_active_at ms j)) i (active_of ns) h) in
     let is = r.is in

@@ -8,8 +8,8 @@ use Rattle.w3_search.specs.declared.node.Node.{Node}
 use Rattle.w3_search.specs.declared.node.NodeSample.{NodeSample}
 use Rattle.w3_search.specs.declared.node.NodeState.{NodeState}
 use Rattle.w3_search.specs.declared.node.NodeState.TheVariants.{Waiting, Confirmed, Unfinished}
-use Rattle.w3_search.specs.Nodes.{changed, finished, in_state, is_confirmed, is_open, unfinished}
-use Rattle.w3_search.specs.Steps.{Rules, SearchData, Waits, begun, ended, new_search, search_step, with_all_families, with_all_samples, with_end, with_phases, with_samples, with_state}
+use Rattle.w3_search.specs.Nodes.{with_node_changed, node_at_end, in_state, is_confirmed, is_open, unfinished}
+use Rattle.w3_search.specs.Steps.{Rules, SearchData, Waits, with_next_phase, ended_tests, new_search, search_step, with_all_families, with_all_samples, with_end, with_phases, with_samples, with_state}
 use Rattle.w3_search.specs.History.{IsHistory}
 use Rattle.w3_search.proofs.Changes.{there}
 use Rattle.w3_search.proofs.Pairs.{IsActive, OneAged, OneSampled, Pairs, all_sampled, ended_in, pairs_changed, pairs_map}
@@ -28,7 +28,7 @@ samples_going : (t : ℕ) (ss : List NodeSample) (v : SearchData) → IsHistory 
     → Going v.rules v.present (with_all_samples t ss v).nodes (with_all_samples t ss v).drops []
 samples_going t ss v h =
     let ms = with_samples v.rules.hypotheses v.rules.decl.window t ss v.nodes in
-    aged IsActive v.rules v.present v.nodes ms [] (ended v.nodes ms) [] (going v h)
+    aged IsActive v.rules v.present v.nodes ms [] (ended_tests v.nodes ms) [] (going v h)
     (only_aged v.nodes ms (all_sampled v.rules.hypotheses v.rules.decl.window t ss v.nodes))
     (λ i n m e f c s. ended_in v.nodes ms i n m e f c.active s) (λ i x. absurd x)
 
@@ -61,7 +61,7 @@ end_going q r present ns left g =
 
 -- ---- phases
 
-begun_keeps : (v : SearchData) → IsHistory v → IsHistory (begun v)
+begun_keeps : (v : SearchData) → IsHistory v → IsHistory (with_next_phase v)
 begun_keeps v h =
     let ns = map (unfinished v.present) v.nodes in
     let g = end_going v.present v.rules v.present v.nodes [] (going v h) in
@@ -75,11 +75,11 @@ begun_keeps v h =
       ];
       families = g.families;
     } in
-    whole (begun v) (roots_going v.rules (v.present + 1) (roots v.rules.hypotheses) ns later (λ k i. i))
+    whole (with_next_phase v) (roots_going v.rules (v.present + 1) (roots v.rules.hypotheses) ns later (λ k i. i))
 
 phases_keep : (t : ℕ) (ps : List PhaseDecl) (v : SearchData) → IsHistory v → IsHistory (with_phases t ps v)
 phases_keep t [] v h = h
-phases_keep t (p ∷ ps) v h = cond_both (nat_le p.at t) (with_phases t ps (begun v)) v IsHistory (λ _. phases_keep t ps (begun v) (begun_keeps v h)) (λ _. h)
+phases_keep t (p ∷ ps) v h = cond_both (nat_le p.at t) (with_phases t ps (with_next_phase v)) v IsHistory (λ _. phases_keep t ps (with_next_phase v) (begun_keeps v h)) (λ _. h)
 
 -- ---- the steps
 
@@ -95,7 +95,7 @@ step_keeps t samples v h =
 pub state_keeps : (i : ℕ) (state : NodeState) (v : SearchData) → IsHistory v → Waits i v.nodes → is_confirmed state ≡ false → IsHistory (with_state i state v)
 state_keeps i state v h waits other =
     let r = there (slice_get v.nodes i) waits in
-    whole (with_state i state v) (steady v.rules v.present v.nodes (changed (in_state state) i v.nodes) [] (going v h)
+    whole (with_state i state v) (steady v.rules v.present v.nodes (with_node_changed (in_state state) i v.nodes) [] (going v h)
     (pairs_changed (OneAged nobody) (λ n. record { same = refl; stays = λ s. s; fresh = λ s. inl s }) (in_state state) v.nodes i (λ n e.
     let same : n ≡ r.0 = (let k : Some n ≡ Some r.0 = sym e ∙ r.1 in cc) in
     let waiting : n.state ≡ Waiting = ap (λ (x : Node). x.state) same ∙ r.2 in
@@ -107,8 +107,8 @@ state_keeps i state v h waits other =
 
 pub end_keeps : (v : SearchData) → IsHistory v → IsHistory (with_end v)
 end_keeps v h =
-    whole (with_end v) (steady v.rules v.present v.nodes (map finished v.nodes) [] (going v h)
-    (pairs_map (OneAged nobody) finished (λ n. record {
+    whole (with_end v) (steady v.rules v.present v.nodes (map node_at_end v.nodes) [] (going v h)
+    (pairs_map (OneAged nobody) node_at_end (λ n. record {
       same = refl;
       stays = ended_stays true n.state n.seen;
       fresh = λ c. inl (ended_fresh (is_open n.state) n.state n.seen c);

@@ -5,7 +5,7 @@ use Rattle.resource_tree.specs.Foci as foci
 use Rattle.w3_axes.specs.Refining.{children, roots}
 use Rattle.w3_search.specs.declared.node.Node.{Node}
 use Rattle.w3_search.specs.declared.node.NodeState.TheVariants.{Confirmed}
-use Rattle.w3_search.specs.Nodes.{is_open, place, place_of, stands, most_nodes}
+use Rattle.w3_search.specs.Nodes.{is_open, place, place_of, has_place, most_nodes}
 use Rattle.w3_search.specs.Steps.{Rules, SearchData}
 
 -- it is in the list
@@ -46,10 +46,10 @@ pub record IsHistory (v : SearchData) : Type 0 where
   pub origin : (i : ℕ) (n : Node) → slice_get v.nodes i ≡ Some n → IsRoot v.rules (lineage_of n) ⊎ IsChild v.rules v.nodes i (lineage_of n)
   pub apart : (i j : ℕ) (m n : Node) → slice_get v.nodes i ≡ Some m → slice_get v.nodes j ≡ Some n → place_of m ≡ place_of n → i ≡ j
   pub roots : length v.nodes < most_nodes → (q h : ℕ) → q ≤ v.present → In h (roots v.rules.hypotheses)
-      → stands (place q h foci.root) v.nodes ≡ true
+      → has_place (place q h foci.root) v.nodes ≡ true
   pub families : length v.nodes < most_nodes → (i : ℕ) (n : Node) → slice_get v.nodes i ≡ Some n → n.state ≡ Confirmed
       → (h : ℕ) (f : Focus) → In (h, f) (children v.rules.hypotheses v.rules.tree n.hypothesis n.focus)
-      → stands (place n.phase h f) v.nodes ≡ true
+      → has_place (place n.phase h f) v.nodes ≡ true
 
 -- this holds of each node that waits or is under test
 abbrev pub AllOpen : (Node → Type 0) → List Node → Type 0

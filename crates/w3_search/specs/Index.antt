@@ -5,7 +5,7 @@ use Rattle.std.specs.declared.alloc.Global.{Global}
 use Rattle.indexmap.specs.IndexSet.{IndexSet, spare}
 use Rattle.w3_search.specs.declared.node.Node.{Node}
 use Rattle.w3_search.specs.declared.place.NodePlace.{NodePlace}
-use Rattle.w3_search.specs.Nodes.{active_of, changed, place_of, waiting_of, most_nodes}
+use Rattle.w3_search.specs.Nodes.{active_of, with_node_changed, place_of, waiting_of, most_nodes}
 
 -- the set has the nodes' places in their order, the nodes that wait and those under test are listed, and there is room for
 -- the most nodes
@@ -36,4 +36,4 @@ without k (m ∷ ms) = if m == k then ms else m ∷ without k ms
 -- the list with the nodes of these numbers changed
 abbrev pub changed_each : (Node → Node) → List ℕ → List Node → List Node
 changed_each f [] ns = ns
-changed_each f (i ∷ is) ns = changed_each f is (changed f i ns)
+changed_each f (i ∷ is) ns = changed_each f is (with_node_changed f i ns)

@@ -46,8 +46,8 @@ is_same_place a b =
     && (is_same_number a.hart b.hart && is_same_number a.object b.object)))
 
 -- a node stands at this place
-abbrev pub stands : NodePlace → List Node → Bool
-stands p ns = list_any (λ n. is_same_place p (place_of n)) ns
+abbrev pub has_place : NodePlace → List Node → Bool
+has_place p ns = list_any (λ n. is_same_place p (place_of n)) ns
 
 -- ---- new nodes
 
@@ -72,7 +72,7 @@ most_nodes = 4096
 
 -- one more node may be made at this place: none stands there, and there are fewer than there may be
 abbrev pub is_free : NodePlace → List Node → Bool
-is_free p ns = nat_lt (length ns) most_nodes && not (stands p ns)
+is_free p ns = nat_lt (length ns) most_nodes && not (has_place p ns)
 
 -- the nodes with one more, if it may be made
 abbrev pub with_node : ℕ → Option ℕ → ℕ → Focus → List Node → List Node
@@ -101,10 +101,10 @@ is_active_at ns i = option_map_or (λ n. is_active n.state) (slice_get ns i) fal
 -- ---- changes
 
 -- the list with the node of number i changed
-abbrev pub changed : (Node → Node) → ℕ → List Node → List Node
-changed f i [] = []
-changed f zero (n ∷ ns) = f n ∷ ns
-changed f (suc i) (n ∷ ns) = n ∷ changed f i ns
+abbrev pub with_node_changed : (Node → Node) → ℕ → List Node → List Node
+with_node_changed f i [] = []
+with_node_changed f zero (n ∷ ns) = f n ∷ ns
+with_node_changed f (suc i) (n ∷ ns) = n ∷ with_node_changed f i ns
 
 -- the node with one sample more, which ends at t
 abbrev pub sampled : ℕ → NodeSample → Node → Node
@@ -125,5 +125,5 @@ abbrev pub unfinished : ℕ → Node → Node
 unfinished q n = record n { state = if (n.phase == q) && is_open n.state then Unfinished n.seen else n.state }
 
 -- when the search ends
-abbrev pub finished : Node → Node
-finished n = record n { state = if is_open n.state then Unfinished n.seen else n.state }
+abbrev pub node_at_end : Node → Node
+node_at_end n = record n { state = if is_open n.state then Unfinished n.seen else n.state }

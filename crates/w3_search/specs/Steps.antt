@@ -12,7 +12,7 @@ use Rattle.w3_search.specs.declared.node.Node.{Node}
 use Rattle.w3_search.specs.declared.node.NodeSample.{NodeSample}
 use Rattle.w3_search.specs.declared.node.NodeState.{NodeState}
 use Rattle.w3_search.specs.declared.node.NodeState.TheVariants.{Confirmed, Rejected, Waiting}
-use Rattle.w3_search.specs.Nodes.{active_of, changed, finished, in_state, is_active, is_active_at, is_confirmed, numbers_from, sampled, unfinished, with_node}
+use Rattle.w3_search.specs.Nodes.{active_of, with_node_changed, node_at_end, in_state, is_active, is_active_at, is_confirmed, numbers_from, sampled, unfinished, with_node}
 
 -- what a search goes by: the hypotheses, its window, the phases after the first, and the tree of the foci
 pub record Rules : Type 0 where
@@ -31,8 +31,8 @@ pub record SearchData : Type 0 where
 -- ---- samples
 
 -- the node with its verdict, where it has as many samples as the window asks for
-abbrev pub judged : List Hypothesis → ℕ → Node → Node
-judged hs window n = record n {
+abbrev pub with_verdict : List Hypothesis → ℕ → Node → Node
+with_verdict hs window n = record n {
   state = if n.seen == window
       then (if holds n.value n.ticks (threshold_of hs n.hypothesis) then Confirmed else Rejected)
       else n.state;
@@ -44,15 +44,15 @@ may_take s n = is_active n.state && nat_lt (n.ticks + s.ticks) (2 ^ 64)
 
 -- one sample, which ends at t
 abbrev pub with_sample : List Hypothesis → ℕ → ℕ → NodeSample → List Node → List Node
-with_sample hs window t s ns = changed (λ n. if may_take s n then judged hs window (sampled t s n) else n) s.node ns
+with_sample hs window t s ns = with_node_changed (λ n. if may_take s n then with_verdict hs window (sampled t s n) else n) s.node ns
 
 abbrev pub with_samples : List Hypothesis → ℕ → ℕ → List NodeSample → List Node → List Node
 with_samples hs window t [] ns = ns
 with_samples hs window t (s ∷ ss) ns = with_samples hs window t ss (with_sample hs window t s ns)
 
 -- the numbers of the nodes that were under test, and are no more
-abbrev pub ended : List Node → List Node → List ℕ
-ended before now = filter (λ i. not (is_active_at now i)) (active_of before)
+abbrev pub ended_tests : List Node → List Node → List ℕ
+ended_tests before now = filter (λ i. not (is_active_at now i)) (active_of before)
 
 -- ---- children
 
@@ -87,8 +87,8 @@ abbrev pub active_in : ℕ → List Node → List ℕ
 active_in q ns = numbers_from (λ n. (n.phase == q) && is_active n.state) 0 ns
 
 -- the next phase begins: the open nodes of the one before end, and its roots are made
-abbrev pub begun : SearchData → SearchData
-begun v = record v {
+abbrev pub with_next_phase : SearchData → SearchData
+with_next_phase v = record v {
   nodes = with_roots (v.present + 1) (roots v.rules.hypotheses) (map (unfinished v.present) v.nodes);
   present = v.present + 1;
   drops = v.drops ++ active_in v.present v.nodes;
@@ -102,7 +102,7 @@ is_due t (p ∷ ps) = nat_le p.at t
 -- those of these phases begin that are due at t. Their ticks ascend, so these stand in front
 abbrev pub with_phases : ℕ → List PhaseDecl → SearchData → SearchData
 with_phases t [] v = v
-with_phases t (p ∷ ps) v = if nat_le p.at t then with_phases t ps (begun v) else v
+with_phases t (p ∷ ps) v = if nat_le p.at t then with_phases t ps (with_next_phase v) else v
 
 -- ---- the step
 
@@ -110,7 +110,7 @@ with_phases t (p ∷ ps) v = if nat_le p.at t then with_phases t ps (begun v) el
 abbrev pub with_all_samples : ℕ → List NodeSample → SearchData → SearchData
 with_all_samples t samples v = record v {
   nodes = with_samples v.rules.hypotheses v.rules.decl.window t samples v.nodes;
-  drops = ended v.nodes (with_samples v.rules.hypotheses v.rules.decl.window t samples v.nodes);
+  drops = ended_tests v.nodes (with_samples v.rules.hypotheses v.rules.decl.window t samples v.nodes);
 }
 
 -- then the children of the nodes that were confirmed
@@ -130,11 +130,11 @@ new_search r = record { rules = r; nodes = with_roots 0 (roots r.hypotheses) [];
 
 -- a node that waited is under test, or barred
 abbrev pub with_state : ℕ → NodeState → SearchData → SearchData
-with_state i state v = record v { nodes = changed (in_state state) i v.nodes }
+with_state i state v = record v { nodes = with_node_changed (in_state state) i v.nodes }
 
 -- the search ends
 abbrev pub with_end : SearchData → SearchData
-with_end v = record v { nodes = map finished v.nodes }
+with_end v = record v { nodes = map node_at_end v.nodes }
 
 -- the node waits
 abbrev pub Waits : ℕ → List Node → Type 0

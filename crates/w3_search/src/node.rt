@@ -1,8 +1,8 @@
 //! A node of the search.
 
 ghost use Rattle.std.specs.Prelude.{◌≡◌, ◌<◌, ◌+◌, ◌^◌, if◌then◌else◌, true};
-ghost use Rattle.w3_search.specs.Nodes.{finished, is_active, is_confirmed, is_open, sampled};
-ghost use Rattle.w3_search.specs.Steps.{judged, may_take};
+ghost use Rattle.w3_search.specs.Nodes.{node_at_end, is_active, is_confirmed, is_open, sampled};
+ghost use Rattle.w3_search.specs.Steps.{with_verdict, may_take};
 
 use pn_types::{BarCause, Focus};
 use w3_axes::{Hypotheses, holds};
@@ -112,7 +112,7 @@ impl Node {
 
     /// Gives the verdict, where as many samples were taken as the window asks for.
     fn judge(&mut self, hypotheses: &Hypotheses, window: u32)
-        ensures { self.new ≡ judged hypotheses.now window self.old }
+        ensures { self.new ≡ with_verdict hypotheses.now window self.old }
     {
         if self.seen == window {
             let threshold = hypotheses.threshold(self.hypothesis);
@@ -128,7 +128,7 @@ impl Node {
     pub(crate) fn take(&mut self, hypotheses: &Hypotheses, window: u32, t: u64, sample: &NodeSample)
         requires few { is_open self.old.state ≡ true → self.old.seen < window }
         ensures { self.new ≡ (if may_take sample.now self.old
-            then judged hypotheses.now window (sampled t sample.now self.old)
+            then with_verdict hypotheses.now window (sampled t sample.now self.old)
             else self.old) }
     {
         if self.may_take(sample) {
@@ -139,7 +139,7 @@ impl Node {
 
     /// Ends the node, if it waits or is under test.
     pub(crate) fn end(&mut self)
-        ensures { self.new ≡ finished self.old }
+        ensures { self.new ≡ node_at_end self.old }
     {
         if self.state.is_open() {
             self.state = NodeState::Unfinished(self.seen);

@@ -4,9 +4,9 @@ ghost use Rattle.std.specs.Prelude.{◌≡◌, ◌<◌, ◌≤◌, ◌+◌, ◌�
 ghost use Rattle.std.specs.List.{list_any};
 ghost use Rattle.indexmap.specs.IndexSet.{spare};
 ghost use Rattle.w3_search.specs.declared.node.NodeState.TheVariants.{Active};
-ghost use Rattle.w3_search.specs.Steps.{ended, with_samples, Waits};
+ghost use Rattle.w3_search.specs.Steps.{ended_tests, with_samples, Waits};
 ghost use Rattle.w3_search.specs.History.{AreFew};
-ghost use Rattle.w3_search.specs.Nodes.{active_of, changed, finished, in_state, is_free, is_open, is_same_place, is_waiting, is_active, place_of, waiting_of, with_node};
+ghost use Rattle.w3_search.specs.Nodes.{active_of, with_node_changed, node_at_end, in_state, is_free, is_open, is_same_place, is_waiting, is_active, place_of, waiting_of, with_node};
 
 use crate::limits::MAX_NODES;
 use crate::node::{Node, NodeSample, NodeState};
@@ -149,7 +149,7 @@ impl Nodes {
         requires room { MAX_NODES ≤ vec_capacity drops.old }
         ensures nodes { self.new ≡ with_samples hypotheses.now window t samples.now self.old }
         ensures few { AreFew window self.new }
-        ensures drops { drops.new.items ≡ ended self.old self.new }
+        ensures drops { drops.new.items ≡ ended_tests self.old self.new }
         ensures capacity { vec_capacity drops.old ≤ vec_capacity drops.new }
         ensures room { vec_len drops.new + length (active_of self.new) ≤ MAX_NODES }
     {
@@ -162,7 +162,7 @@ impl Nodes {
     /// A node that waits is under test.
     pub(crate) fn admit(&mut self, number: u32)
         requires { Waits number self.old }
-        ensures { self.new ≡ changed (in_state Active) number self.old }
+        ensures { self.new ≡ with_node_changed (in_state Active) number self.old }
     {
         set_state(&mut self.list, number, NodeState::Active);
         take_out(&mut self.waiting, number);
@@ -172,7 +172,7 @@ impl Nodes {
     /// A node that waits can't be tested.
     pub(crate) fn bar(&mut self, number: u32, cause: BarCause)
         requires { Waits number self.old }
-        ensures { self.new ≡ changed (in_state (NodeState.Barred cause)) number self.old }
+        ensures { self.new ≡ with_node_changed (in_state (NodeState.Barred cause)) number self.old }
     {
         set_state(&mut self.list, number, NodeState::Barred(cause));
         take_out(&mut self.waiting, number);
@@ -180,7 +180,7 @@ impl Nodes {
 
     /// Ends the nodes that wait or are under test.
     pub(crate) fn end_open(&mut self)
-        ensures { self.new ≡ map finished self.old }
+        ensures { self.new ≡ map node_at_end self.old }
     {
         end_open(&mut self.list, &self.waiting, &self.active);
         self.waiting.clear();

@@ -227,7 +227,7 @@ impl State {
     fn begin_phase(&mut self)
         requires phase { self.old.present < length self.old.rules.phases }
         requires room { length self.old.drops + length (active_of self.old.nodes) ≤ MAX_NODES }
-        ensures state { self.new ≡ spec.begun self.old }
+        ensures state { self.new ≡ spec.with_next_phase self.old }
         ensures room { length self.new.drops + length (active_of self.new.nodes) ≤ MAX_NODES }
     {
         push_all(&mut self.drops, self.nodes.active());

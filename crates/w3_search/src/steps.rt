@@ -2,7 +2,7 @@
 
 ghost use Rattle.std.specs.Prelude.{◌≡◌, ◌<◌, ◌≤◌, ◌+◌, ◌∷◌, ◌++◌, [], length, map, vec_len, vec_capacity};
 ghost use Rattle.std.specs.List.{AllByRecursion};
-ghost use Rattle.w3_search.specs.Nodes.{active_of, changed, finished, in_state, new_node, waiting_of};
+ghost use Rattle.w3_search.specs.Nodes.{active_of, with_node_changed, node_at_end, in_state, new_node, waiting_of};
 ghost use Rattle.w3_search.specs.Steps.{with_sample, with_samples};
 ghost use Rattle.w3_search.specs.History.{AreFew};
 ghost use Rattle.w3_search.specs.Index.{changed_each};
@@ -43,7 +43,7 @@ pub(crate) fn add_samples(
 /// Brings a node into another state.
 pub(crate) fn set_state(nodes: &mut [Node], number: u32, state: NodeState)
     requires { number < length nodes.old }
-    ensures { nodes.new ≡ changed (in_state state) number nodes.old }
+    ensures { nodes.new ≡ with_node_changed (in_state state) number nodes.old }
 {
     let node = &mut nodes[number as usize];
     node.state = state;
@@ -52,7 +52,7 @@ pub(crate) fn set_state(nodes: &mut [Node], number: u32, state: NodeState)
 /// Ends those of the nodes of these numbers that wait or are under test.
 fn end_each(nodes: &mut [Node], numbers: &[u32])
     requires { AllByRecursion (λ i. i < length nodes.old) numbers.now }
-    ensures { nodes.new ≡ changed_each finished numbers.now nodes.old }
+    ensures { nodes.new ≡ changed_each node_at_end numbers.now nodes.old }
 {
     for number in numbers {
         let node = &mut nodes[*number as usize];
@@ -64,7 +64,7 @@ fn end_each(nodes: &mut [Node], numbers: &[u32])
 pub(crate) fn end_open(nodes: &mut [Node], waiting: &[u32], active: &[u32])
     requires waits { waiting.now ≡ waiting_of nodes.old }
     requires under_test { active.now ≡ active_of nodes.old }
-    ensures { nodes.new ≡ map finished nodes.old }
+    ensures { nodes.new ≡ map node_at_end nodes.old }
 {
     end_each(nodes, waiting);
     end_each(nodes, active);

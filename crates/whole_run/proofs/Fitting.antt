@@ -8,8 +8,8 @@ use Rattle.quanta_log.specs.Spelling.{IsQuantum}
 use Rattle.pn_types.specs.declared.quantum.Quantum.{Quantum}
 use Rattle.machine.specs.Turns.{is_runnable}
 use Rattle.session_spec.specs.Inputs.{Inputs}
-use Rattle.session_spec.specs.States.{Kept, State}
-use Rattle.session_spec.specs.Work.{AreAllowedFrom, Halted, IsAllowed, IsWhole, first_state, tend, work}
+use Rattle.session_spec.specs.States.{SessionState, State}
+use Rattle.session_spec.specs.Work.{AreAllowedFrom, Halted, IsAllowed, IsWhole, first_state, after_quantum, after_quanta}
 use Rattle.whole_run.specs.declared.misfit.Misfit.{Misfit}
 use Rattle.whole_run.specs.declared.misfit.Misfit.TheVariants.{NotRunnable, OtherOwns, Unfinished}
 use Rattle.whole_run.proofs.Following.{fits}
@@ -22,7 +22,7 @@ no_misfit true true x y e = (refl, refl)
 no_misfit true false x y e = absurd (cc)
 no_misfit false d x y e = absurd (cc)
 
-allowed : (i : Inputs) (n : ℕ) (k : Kept) (q : Quantum) → IsQuantum i.settings.harts q → misfit_at i n k q ≡ None → IsAllowed i k q
+allowed : (i : Inputs) (n : ℕ) (k : SessionState) (q : Quantum) → IsQuantum i.settings.harts q → misfit_at i n k q ≡ None → IsAllowed i k q
 allowed i n k q r e =
     let both = no_misfit (is_runnable k.machine.core q.hart) (q.owns == owns_of i k q) (NotRunnable n q.hart) (OtherOwns n q.owns (owns_of i k q)) e in
     record {
@@ -34,7 +34,7 @@ allowed i n k q r e =
       owns = ap (λ o. record q { owns = o }) (eqb-true q.owns (owns_of i k q) both.1);
     }
 
-allowed_fits : (i : Inputs) (n : ℕ) (k : Kept) (q : Quantum) → IsAllowed i k q → misfit_at i n k q ≡ None
+allowed_fits : (i : Inputs) (n : ℕ) (k : SessionState) (q : Quantum) → IsAllowed i k q → misfit_at i n k q ≡ None
 allowed_fits i n k q a = fits i n k q a.runnable (ap (λ (x : Quantum). x.owns) a.owns)
 
 -- ---- all of them
@@ -53,13 +53,13 @@ neither (Some misfit) rest e f = absurd (cc)
 all_allowed : (i : Inputs) (n : ℕ) (s : State) (quanta : List Quantum) → AllByRecursion (IsQuantum i.settings.harts) quanta → misfit_from i n s quanta ≡ None → AreAllowedFrom i s quanta
 all_allowed i n s [] r e = tt
 all_allowed i n s (q ∷ quanta) r e =
-    let both = either (misfit_at i n s.kept q) (misfit_from i (n + 1) (tend i q.hart q.turns s) quanta) e in
-    (allowed i n s.kept q r.0 both.0, all_allowed i (n + 1) (tend i q.hart q.turns s) quanta r.1 both.1)
+    let both = either (misfit_at i n s.kept q) (misfit_from i (n + 1) (after_quantum i q.hart q.turns s) quanta) e in
+    (allowed i n s.kept q r.0 both.0, all_allowed i (n + 1) (after_quantum i q.hart q.turns s) quanta r.1 both.1)
 
 all_fit : (i : Inputs) (n : ℕ) (s : State) (quanta : List Quantum) → AreAllowedFrom i s quanta → misfit_from i n s quanta ≡ None
 all_fit i n s [] a = refl
 all_fit i n s (q ∷ quanta) a =
-    neither (misfit_at i n s.kept q) (misfit_from i (n + 1) (tend i q.hart q.turns s) quanta) (allowed_fits i n s.kept q a.0) (all_fit i (n + 1) (tend i q.hart q.turns s) quanta a.1)
+    neither (misfit_at i n s.kept q) (misfit_from i (n + 1) (after_quantum i q.hart q.turns s) quanta) (allowed_fits i n s.kept q a.0) (all_fit i (n + 1) (after_quantum i q.hart q.turns s) quanta a.1)
 
 -- ---- the end
 
@@ -113,12 +113,12 @@ none_below p n none = none_any p 0 n (λ d l. let same : 0 + d ≡ d = omega ari
 -- no hart can go on
 pub over : (i : Inputs) (quanta : List Quantum) → goes_on i quanta ≡ false → (h : ℕ) → h < i.settings.harts → Halted i quanta h
 unfolding Halted
-over i quanta e h l = by (and_false (nat_lt (length quanta) MAX_QUANTA) (list_any (is_runnable (work i quanta).kept.machine.core) (range_with_len 0 i.settings.harts)) e)
+over i quanta e h l = by (and_false (nat_lt (length quanta) MAX_QUANTA) (list_any (is_runnable (after_quanta i quanta).kept.machine.core) (range_with_len 0 i.settings.harts)) e)
   where
-    by : (nat_lt (length quanta) MAX_QUANTA ≡ false) ⊎ (list_any (is_runnable (work i quanta).kept.machine.core) (range_with_len 0 i.settings.harts) ≡ false)
-        → (is_runnable (work i quanta).kept.machine.core h ≡ false) ⊎ (MAX_QUANTA ≤ length quanta)
+    by : (nat_lt (length quanta) MAX_QUANTA ≡ false) ⊎ (list_any (is_runnable (after_quanta i quanta).kept.machine.core) (range_with_len 0 i.settings.harts) ≡ false)
+        → (is_runnable (after_quanta i quanta).kept.machine.core h ≡ false) ⊎ (MAX_QUANTA ≤ length quanta)
     by (inl many) = inr (ltb-false (length quanta) MAX_QUANTA many)
-    by (inr none) = inl (below (is_runnable (work i quanta).kept.machine.core) i.settings.harts h none l)
+    by (inr none) = inl (below (is_runnable (after_quanta i quanta).kept.machine.core) i.settings.harts h none l)
 
 one_over : (b : Bool) (few : ℕ) (n : ℕ) → n < few → (b ≡ false) ⊎ (few ≤ n) → b ≡ false
 one_over b few n l (inl e) = e
@@ -128,12 +128,12 @@ pub over_is : (i : Inputs) (quanta : List Quantum) → ((h : ℕ) → h < i.sett
 unfolding Halted
 over_is i quanta ended = by (nat_lt (length quanta) MAX_QUANTA) refl
   where
-    by : (b : Bool) → nat_lt (length quanta) MAX_QUANTA ≡ b → (nat_lt (length quanta) MAX_QUANTA && list_any (is_runnable (work i quanta).kept.machine.core) (range_with_len 0 i.settings.harts)) ≡ false
+    by : (b : Bool) → nat_lt (length quanta) MAX_QUANTA ≡ b → (nat_lt (length quanta) MAX_QUANTA && list_any (is_runnable (after_quanta i quanta).kept.machine.core) (range_with_len 0 i.settings.harts)) ≡ false
     by true e =
-        no_and (nat_lt (length quanta) MAX_QUANTA) (list_any (is_runnable (work i quanta).kept.machine.core) (range_with_len 0 i.settings.harts)) e
-        (none_below (is_runnable (work i quanta).kept.machine.core) i.settings.harts
-        (λ d l. one_over (is_runnable (work i quanta).kept.machine.core d) MAX_QUANTA (length quanta) (ltb-true (length quanta) MAX_QUANTA e) (ended d l)))
-    by false e = ap (λ b. b && list_any (is_runnable (work i quanta).kept.machine.core) (range_with_len 0 i.settings.harts)) e
+        no_and (nat_lt (length quanta) MAX_QUANTA) (list_any (is_runnable (after_quanta i quanta).kept.machine.core) (range_with_len 0 i.settings.harts)) e
+        (none_below (is_runnable (after_quanta i quanta).kept.machine.core) i.settings.harts
+        (λ d l. one_over (is_runnable (after_quanta i quanta).kept.machine.core d) MAX_QUANTA (length quanta) (ltb-true (length quanta) MAX_QUANTA e) (ended d l)))
+    by false e = ap (λ b. b && list_any (is_runnable (after_quanta i quanta).kept.machine.core) (range_with_len 0 i.settings.harts)) e
 
 -- a hart can go on
 pub open_end : (i : Inputs) (quanta : List Quantum) → ((h : ℕ) × (h < i.settings.harts) × (Halted i quanta h → ⊥)) → goes_on i quanta ≡ true

@@ -9,8 +9,8 @@ use Rattle.pn_types.specs.declared.quantum.Quantum.{Quantum}
 use Rattle.machine.specs.Turns.{is_runnable}
 use Rattle.session.specs.Sessions.{SessionData, state_of}
 use Rattle.session_spec.specs.Inputs.{Inputs}
-use Rattle.session_spec.specs.States.{Kept, State}
-use Rattle.session_spec.specs.Work.{Halted, first_state, quantum_of, tend, work}
+use Rattle.session_spec.specs.States.{SessionState, State}
+use Rattle.session_spec.specs.Work.{Halted, first_state, quantum_of, after_quantum, after_quanta}
 use Rattle.whole_run.specs.declared.misfit.Misfit.{Misfit}
 use Rattle.whole_run.specs.declared.misfit.Misfit.TheVariants.{NotRunnable, OtherOwns, Unfinished}
 use Rattle.whole_run.specs.Replayed.{goes_on, misfit_at, misfit_from, misfit_of, owns_of}
@@ -19,10 +19,10 @@ use Rattle.whole_run.proofs.Ordered.{going, halted, stuck, work_push}
 -- the first quanta were taken, and what doesn't fit of all doesn't of the others
 pub record Following (i : Inputs) (quanta : List Quantum) (n : ℕ) (taken : List Quantum) : Type 0 where
   pub first : taken ≡ take n quanta
-  pub others : misfit_from i 0 (first_state i) quanta ≡ misfit_from i n (work i taken) (drop n quanta)
+  pub others : misfit_from i 0 (first_state i) quanta ≡ misfit_from i n (after_quanta i taken) (drop n quanta)
 
 pub follows_none : (i : Inputs) (quanta : List Quantum) → Following i quanta 0 []
-unfolding work
+unfolding after_quanta
 follows_none i quanta = record { first = refl; others = refl }
 
 -- ---- the next
@@ -52,16 +52,16 @@ other_number a b true e f = absurd (f (eqb-true a b e))
 other_number a b false e f = refl
 
 -- a quantum of a hart that can't go on
-pub not_runnable : (i : Inputs) (n : ℕ) (k : Kept) (q : Quantum) → is_runnable k.machine.core q.hart ≡ false → misfit_at i n k q ≡ Some (NotRunnable n q.hart)
+pub not_runnable : (i : Inputs) (n : ℕ) (k : SessionState) (q : Quantum) → is_runnable k.machine.core q.hart ≡ false → misfit_at i n k q ≡ Some (NotRunnable n q.hart)
 not_runnable i n k q e =
     runs_false (is_runnable k.machine.core q.hart) (NotRunnable n q.hart) (if q.owns == owns_of i k q then None else Some (OtherOwns n q.owns (owns_of i k q))) e
 
-pub other_owns : (i : Inputs) (n : ℕ) (k : Kept) (q : Quantum) → is_runnable k.machine.core q.hart ≡ true → (q.owns ≡ owns_of i k q → ⊥) → misfit_at i n k q ≡ Some (OtherOwns n q.owns (owns_of i k q))
+pub other_owns : (i : Inputs) (n : ℕ) (k : SessionState) (q : Quantum) → is_runnable k.machine.core q.hart ≡ true → (q.owns ≡ owns_of i k q → ⊥) → misfit_at i n k q ≡ Some (OtherOwns n q.owns (owns_of i k q))
 other_owns i n k q e f =
     runs_true (is_runnable k.machine.core q.hart) (NotRunnable n q.hart) (if q.owns == owns_of i k q then None else Some (OtherOwns n q.owns (owns_of i k q))) e
     ∙ other (q.owns == owns_of i k q) (OtherOwns n q.owns (owns_of i k q)) (other_number q.owns (owns_of i k q) (q.owns == owns_of i k q) refl f)
 
-pub fits : (i : Inputs) (n : ℕ) (k : Kept) (q : Quantum) → is_runnable k.machine.core q.hart ≡ true → q.owns ≡ owns_of i k q → misfit_at i n k q ≡ None
+pub fits : (i : Inputs) (n : ℕ) (k : SessionState) (q : Quantum) → is_runnable k.machine.core q.hart ≡ true → q.owns ≡ owns_of i k q → misfit_at i n k q ≡ None
 fits i n k q e f =
     runs_true (is_runnable k.machine.core q.hart) (NotRunnable n q.hart) (if q.owns == owns_of i k q then None else Some (OtherOwns n q.owns (owns_of i k q))) e
     ∙ same (q.owns == owns_of i k q) (OtherOwns n q.owns (owns_of i k q)) (same_number q.owns (owns_of i k q) (q.owns == owns_of i k q) refl f)
@@ -70,22 +70,22 @@ fits i n k q e f =
 
 -- what is first of all comes of the next
 next : (i : Inputs) (n : ℕ) (s : State) (q : Quantum) (rest : List Quantum) (o : Option Misfit) → misfit_at i n s.kept q ≡ o
-    → misfit_from i n s (q ∷ rest) ≡ elim o [ Some misfit ↦ Some misfit | None ↦ misfit_from i (n + 1) (tend i q.hart q.turns s) rest ]
-next i n s q rest o e = ap (λ (x : Option Misfit). elim x [ Some misfit ↦ Some misfit | None ↦ misfit_from i (n + 1) (tend i q.hart q.turns s) rest ]) e
+    → misfit_from i n s (q ∷ rest) ≡ elim o [ Some misfit ↦ Some misfit | None ↦ misfit_from i (n + 1) (after_quantum i q.hart q.turns s) rest ]
+next i n s q rest o e = ap (λ (x : Option Misfit). elim x [ Some misfit ↦ Some misfit | None ↦ misfit_from i (n + 1) (after_quantum i q.hart q.turns s) rest ]) e
 
 pub follows_next : (i : Inputs) (quanta : List Quantum) (n : ℕ) (taken : List Quantum) (q : Quantum) → Following i quanta n taken → drop n quanta ≡ q ∷ drop (n + 1) quanta → take (n + 1) quanta ≡ take n quanta ++ q ∷ []
-    → misfit_at i n (work i taken).kept q ≡ None → Following i quanta (n + 1) (taken ++ q ∷ [])
+    → misfit_at i n (after_quanta i taken).kept q ≡ None → Following i quanta (n + 1) (taken ++ q ∷ [])
 follows_next i quanta n taken q f rest more fit = record {
   first = ap (λ (l : List Quantum). l ++ q ∷ []) f.first ∙ sym more;
-  others = f.others ∙ (ap (misfit_from i n (work i taken)) rest ∙ (next i n (work i taken) q (drop (n + 1) quanta) None fit
+  others = f.others ∙ (ap (misfit_from i n (after_quanta i taken)) rest ∙ (next i n (after_quanta i taken) q (drop (n + 1) quanta) None fit
       ∙ ap (λ (s : State). misfit_from i (n + 1) s (drop (n + 1) quanta)) (sym (work_push i taken q))));
 }
 
 pub misfits : (i : Inputs) (quanta : List Quantum) (n : ℕ) (taken : List Quantum) (q : Quantum) (misfit : Misfit) → Following i quanta n taken → drop n quanta ≡ q ∷ drop (n + 1) quanta
-    → misfit_at i n (work i taken).kept q ≡ Some misfit → misfit_of i quanta ≡ Some misfit
+    → misfit_at i n (after_quanta i taken).kept q ≡ Some misfit → misfit_of i quanta ≡ Some misfit
 unfolding misfit_of
 misfits i quanta n taken q misfit f rest e =
-    let found = f.others ∙ (ap (misfit_from i n (work i taken)) rest ∙ next i n (work i taken) q (drop (n + 1) quanta) (Some misfit) e) in
+    let found = f.others ∙ (ap (misfit_from i n (after_quanta i taken)) rest ∙ next i n (after_quanta i taken) q (drop (n + 1) quanta) (Some misfit) e) in
     ap (λ (x : Option Misfit). elim x [ Some misfit ↦ Some misfit | None ↦ if goes_on i quanta then Some Unfinished else None ]) found
 
 -- ---- a session that follows
@@ -109,7 +109,7 @@ of_some (Some x) P q h e = let same : x ≡ q = cc in subst P same h
 taken_length : (quanta taken : List Quantum) (n : ℕ) → taken ≡ take n quanta → n ≤ length quanta → length taken ≡ n
 taken_length quanta taken n e l = ap length e ∙ length-take-le n quanta l
 
-runs : (i : Inputs) (quanta : List Quantum) (h : ℕ) (b : Bool) → is_runnable (work i quanta).kept.machine.core h ≡ b → (Halted i quanta h → ⊥) → is_runnable (work i quanta).kept.machine.core h ≡ true
+runs : (i : Inputs) (quanta : List Quantum) (h : ℕ) (b : Bool) → is_runnable (after_quanta i quanta).kept.machine.core h ≡ b → (Halted i quanta h → ⊥) → is_runnable (after_quanta i quanta).kept.machine.core h ≡ true
 runs i quanta h true e not = e
 runs i quanta h false e not = absurd (not (halted i quanta h e))
 
@@ -117,8 +117,8 @@ module _ (s : SessionData) (quanta : List Quantum) (n : ℕ) (d : Quantum) (wide
   abbrev told : Quantum
   told = slice_index_or quanta n d
 
-  abbrev kept : Kept
-  kept = (work s.inputs s.quanta).kept
+  abbrev kept : SessionState
+  kept = (after_quanta s.inputs s.quanta).kept
 
   -- the hart of the next can't go on
   pub stops : Halted s.inputs s.quanta told.hart → misfit_of s.inputs quanta ≡ Some (NotRunnable n told.hart)
@@ -157,7 +157,7 @@ pub all_taken : (i : Inputs) (quanta : List Quantum) (n : ℕ) (taken : List Qua
 all_taken i quanta n taken f l = f.first ∙ take_all n quanta l
 
 none_left : (i : Inputs) (quanta : List Quantum) (n : ℕ) (taken : List Quantum) → Following i quanta n taken → length quanta ≤ n → misfit_from i 0 (first_state i) quanta ≡ None
-none_left i quanta n taken f l = f.others ∙ ap (misfit_from i n (work i taken)) (drop_all n quanta l)
+none_left i quanta n taken f l = f.others ∙ ap (misfit_from i n (after_quanta i taken)) (drop_all n quanta l)
 
 -- what is said where they are all taken
 pub ended : (i : Inputs) (quanta : List Quantum) (n : ℕ) (taken : List Quantum) (b : Bool) → Following i quanta n taken → length quanta ≤ n → goes_on i quanta ≡ b → misfit_of i quanta ≡ (if b then Some Unfinished else None)

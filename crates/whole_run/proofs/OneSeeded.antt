@@ -10,12 +10,12 @@ use Rattle.pn_types.specs.declared.quantum.Quantum.{Quantum}
 use Rattle.machine.specs.Turns.{is_runnable}
 use Rattle.session_spec.specs.Inputs.{Inputs}
 use Rattle.session_spec.specs.States.{State}
-use Rattle.session_spec.specs.Work.{Halted, IsWhole, first_state, quantum_of, tend, work, work_from}
+use Rattle.session_spec.specs.Work.{Halted, IsWhole, first_state, quantum_of, after_quantum, after_quanta, after_quanta_from}
 use Rattle.whole_run.specs.Seeded.{AreInOrder, OneSeeded}
 
 -- after these quanta no hart can go on, or there are at least `limit` of them
 abbrev Ends : Inputs → ℕ → State → List Quantum → Type 0
-Ends i limit s quanta = (h : ℕ) → h < i.settings.harts → (is_runnable (work_from i quanta s).kept.machine.core h ≡ false) ⊎ (limit ≤ length quanta)
+Ends i limit s quanta = (h : ℕ) → h < i.settings.harts → (is_runnable (after_quanta_from i quanta s).kept.machine.core h ≡ false) ⊎ (limit ≤ length quanta)
 
 same_some : (a b : ℕ) (o : Option ℕ) → o ≡ Some a → o ≡ Some b → a ≡ b
 same_some a b o e f = cc
@@ -31,10 +31,10 @@ none_more i limit order s y rest e few ends = by (picked_may order (is_runnable 
         stops (inl never) = true≢false (sym k.0 ∙ never)
         stops (inr l) = absurd (omega arith)
 
-tail_ends : (i : Inputs) (limit : ℕ) (s : State) (x : Quantum) (quanta : List Quantum) → Ends i (suc limit) s (x ∷ quanta) → Ends i limit (tend i x.hart x.turns s) quanta
+tail_ends : (i : Inputs) (limit : ℕ) (s : State) (x : Quantum) (quanta : List Quantum) → Ends i (suc limit) s (x ∷ quanta) → Ends i limit (after_quantum i x.hart x.turns s) quanta
 tail_ends i limit s x quanta ends h l = by (ends h l)
   where
-    by : (is_runnable (work_from i quanta (tend i x.hart x.turns s)).kept.machine.core h ≡ false) ⊎ (suc limit ≤ length (x ∷ quanta)) → (is_runnable (work_from i quanta (tend i x.hart x.turns s)).kept.machine.core h ≡ false) ⊎ (limit ≤ length quanta)
+    by : (is_runnable (after_quanta_from i quanta (after_quantum i x.hart x.turns s)).kept.machine.core h ≡ false) ⊎ (suc limit ≤ length (x ∷ quanta)) → (is_runnable (after_quanta_from i quanta (after_quantum i x.hart x.turns s)).kept.machine.core h ≡ false) ⊎ (limit ≤ length quanta)
     by (inl e) = inl e
     by (inr m) = inr (omega arith)
 
@@ -46,13 +46,13 @@ one_order i turns zero order s (x ∷ q) (y ∷ r) a b l m e f = absurd (omega a
 one_order i turns (suc limit) order s (x ∷ q) (y ∷ r) a b l m e f =
     let hart : x.hart ≡ y.hart = same_some x.hart y.hart (picked order (is_runnable s.kept.machine.core) i.settings.harts) a.0 b.0 in
     let same : x ≡ y = a.1 ∙ (ap (λ h. quantum_of i 0 h turns s.kept) hart ∙ sym b.1) in
-    let after : Quantum → Type 0 = λ z. AreInOrder i turns (order_after order z.hart) (tend i z.hart z.turns s) r in
-    let ends : Quantum → Type 0 = λ z. Ends i limit (tend i z.hart z.turns s) r in
+    let after : Quantum → Type 0 = λ z. AreInOrder i turns (order_after order z.hart) (after_quantum i z.hart z.turns s) r in
+    let ends : Quantum → Type 0 = λ z. Ends i limit (after_quantum i z.hart z.turns s) r in
     ap (λ z. z ∷ q) same ∙ ap (λ rest. y ∷ rest)
-    (one_order i turns limit (order_after order x.hart) (tend i x.hart x.turns s) q r a.2 (subst after (sym same) b.2) (omega arith) (omega arith) (tail_ends i limit s x q e) (subst ends (sym same) (tail_ends i limit s y r f)))
+    (one_order i turns limit (order_after order x.hart) (after_quantum i x.hart x.turns s) q r a.2 (subst after (sym same) b.2) (omega arith) (omega arith) (tail_ends i limit s x q e) (subst ends (sym same) (tail_ends i limit s y r f)))
 
 ended : (i : Inputs) (quanta : List Quantum) → IsWhole i quanta → Ends i MAX_QUANTA (first_state i) quanta
-unfolding Halted work
+unfolding Halted after_quanta
 ended i quanta w h l = w.ended h l
 
 pub one_seeded : OneSeeded

@@ -13,7 +13,7 @@ use Rattle.pn_types.specs.declared.quantum.Quantum.{Quantum}
 use Rattle.machine.specs.Turns.{is_runnable}
 use Rattle.session_spec.specs.Inputs.{Inputs}
 use Rattle.session_spec.specs.States.{State}
-use Rattle.session_spec.specs.Work.{AreAllowed, Halted, closed, first_state, quantum_of, tend, work, work_from}
+use Rattle.session_spec.specs.Work.{AreAllowed, Halted, final_state, first_state, quantum_of, after_quantum, after_quanta, after_quanta_from}
 use Rattle.session.specs.Sessions.{SessionData, state_of}
 use Rattle.whole_run.specs.Seeded.{AreInOrder, IsSeeded}
 use Rattle.whole_run.specs.Rounds.{StandAt, order_at}
@@ -24,10 +24,10 @@ use Rattle.whole_run.proofs.Staying.{others_stay}
 
 -- of a list of quanta
 abbrev pub may_go : Inputs → List Quantum → ℕ → Bool
-may_go i quanta = is_runnable (work i quanta).kept.machine.core
+may_go i quanta = is_runnable (after_quanta i quanta).kept.machine.core
 
-pub going : (s : SessionData) → s.closed ≡ false → state_of s ≡ work s.inputs s.quanta
-going s e = ap (λ b. cond b (closed s.inputs (work s.inputs s.quanta)) (work s.inputs s.quanta)) e
+pub going : (s : SessionData) → s.closed ≡ false → state_of s ≡ after_quanta s.inputs s.quanta
+going s e = ap (λ b. cond b (final_state s.inputs (after_quanta s.inputs s.quanta)) (after_quanta s.inputs s.quanta)) e
 
 one_ready : (may : ℕ → Bool) (n : ℕ) (b : Bool) → may n ≡ b → ready_of may (n + 1) ≡ ready_of may n ++ cond b (n ∷ []) []
 one_ready may n b e =
@@ -62,12 +62,12 @@ full i quanta h l = inr l
 
 -- ---- the same after one quantum more
 
-work_from_push : (i : Inputs) (quanta : List Quantum) (q : Quantum) (s : State) → work_from i (quanta ++ q ∷ []) s ≡ tend i q.hart q.turns (work_from i quanta s)
+work_from_push : (i : Inputs) (quanta : List Quantum) (q : Quantum) (s : State) → after_quanta_from i (quanta ++ q ∷ []) s ≡ after_quantum i q.hart q.turns (after_quanta_from i quanta s)
 work_from_push i [] q s = refl
-work_from_push i (x ∷ quanta) q s = work_from_push i quanta q (tend i x.hart x.turns s)
+work_from_push i (x ∷ quanta) q s = work_from_push i quanta q (after_quantum i x.hart x.turns s)
 
-pub work_push : (i : Inputs) (quanta : List Quantum) (q : Quantum) → work i (quanta ++ q ∷ []) ≡ tend i q.hart q.turns (work i quanta)
-unfolding work
+pub work_push : (i : Inputs) (quanta : List Quantum) (q : Quantum) → after_quanta i (quanta ++ q ∷ []) ≡ after_quantum i q.hart q.turns (after_quanta i quanta)
+unfolding after_quanta
 work_push i quanta q = work_from_push i quanta q (first_state i)
 
 -- hart h, and each that may go
@@ -90,10 +90,10 @@ or_other may h j other = by (j == h) refl
 
 -- where no work was done, the harts that could go are its hart and those that can
 pub others_kept : (i : Inputs) (quanta : List Quantum) (q : Quantum) (n : ℕ) (ready : List ℕ) → ready ≡ ready_of (may_go i quanta) n → may_go i quanta q.hart ≡ true
-    → (work i (quanta ++ q ∷ [])).kept.worked ≡ false → ready ≡ ready_of (or_hart (may_go i (quanta ++ q ∷ [])) q.hart) n
+    → (after_quanta i (quanta ++ q ∷ [])).kept.worked ≡ false → ready ≡ ready_of (or_hart (may_go i (quanta ++ q ∷ [])) q.hart) n
 others_kept i quanta q n ready e t idle =
     let now = work_push i quanta q in
-    let still = λ (j : ℕ) (other : j ≢ q.hart). ap (λ (s : State). is_runnable s.kept.machine.core j) now ∙ others_stay i q.hart q.turns j (work i quanta) other (ap (λ (s : State). s.kept.worked) (sym now) ∙ idle) in
+    let still = λ (j : ℕ) (other : j ≢ q.hart). ap (λ (s : State). is_runnable s.kept.machine.core j) now ∙ others_stay i q.hart q.turns j (after_quanta i quanta) other (ap (λ (s : State). s.kept.worked) (sym now) ∙ idle) in
     e ∙ sym (filter_same (may_go i quanta) (or_hart (may_go i (quanta ++ q ∷ [])) q.hart) (range_with_len 0 n) (or_same (may_go i quanta) (may_go i (quanta ++ q ∷ [])) q.hart t still))
 
 -- its hart goes on
@@ -111,10 +111,10 @@ order_push order [] q = refl
 order_push order (p ∷ quanta) q = order_push (order_after order p.hart) quanta q
 
 ordered_push : (i : Inputs) (turns : ℕ) (order : Order) (s : State) (quanta : List Quantum) (q : Quantum) → AreInOrder i turns order s quanta
-    → picked (order_at order quanta) (is_runnable (work_from i quanta s).kept.machine.core) i.settings.harts ≡ Some q.hart → q ≡ quantum_of i 0 q.hart turns (work_from i quanta s).kept
+    → picked (order_at order quanta) (is_runnable (after_quanta_from i quanta s).kept.machine.core) i.settings.harts ≡ Some q.hart → q ≡ quantum_of i 0 q.hart turns (after_quanta_from i quanta s).kept
     → AreInOrder i turns order s (quanta ++ q ∷ [])
 ordered_push i turns order s [] q a p e = (p, e, tt)
-ordered_push i turns order s (x ∷ quanta) q a p e = (a.0, a.1, ordered_push i turns (order_after order x.hart) (tend i x.hart x.turns s) quanta q a.2 p e)
+ordered_push i turns order s (x ∷ quanta) q a p e = (a.0, a.1, ordered_push i turns (order_after order x.hart) (after_quantum i x.hart x.turns s) quanta q a.2 p e)
 
 -- `count` quanta were taken in order, and this order is next
 pub record Running (i : Inputs) (seed turns count : ℕ) (quanta : List Quantum) (order : Order) : Type 0 where
@@ -126,8 +126,8 @@ pub begins : (i : Inputs) (seed turns : ℕ) → Running i seed turns 0 [] (orde
 begins i seed turns = record { ordered = tt; number = refl; order_is = refl }
 
 pub goes_on : (i : Inputs) (seed turns count h : ℕ) (quanta : List Quantum) (order : Order) (q : Quantum) → Running i seed turns count quanta order → picked order (may_go i quanta) i.settings.harts ≡ Some h
-    → q ≡ quantum_of i 0 h turns (work i quanta).kept → Running i seed turns (count + 1) (quanta ++ q ∷ []) (order_after order h)
-unfolding work
+    → q ≡ quantum_of i 0 h turns (after_quanta i quanta).kept → Running i seed turns (count + 1) (quanta ++ q ∷ []) (order_after order h)
+unfolding after_quanta
 goes_on i seed turns count h quanta order q r p e =
     let hart : q.hart ≡ h = ap (λ (x : Quantum). x.hart) e in
     let one : length (q ∷ []) ≡ 1 = refl in
@@ -136,7 +136,7 @@ goes_on i seed turns count h quanta order q r p e =
     record {
       ordered = ordered_push i turns (order_of_seed seed) (first_state i) quanta q r.ordered
           (subst (λ o. picked o (may_go i quanta) i.settings.harts ≡ Some q.hart) r.order_is (p ∙ ap Some (sym hart)))
-          (subst (λ n. q ≡ quantum_of i 0 n turns (work i quanta).kept) (sym hart) e);
+          (subst (λ n. q ≡ quantum_of i 0 n turns (after_quanta i quanta).kept) (sym hart) e);
       number = omega arith;
       order_is = ap (λ o. order_after o h) r.order_is ∙ (ap (order_after (order_at (order_of_seed seed) quanta)) (sym hart) ∙ sym (order_push (order_of_seed seed) quanta q));
     }
@@ -160,10 +160,10 @@ takes s new seed turns count h order None wide few r p taken asked none =
 -- and left the list of those that could go, where no work was done
 pub takes_others : (s new : SessionData) (h n turns : ℕ) (ready : List ℕ) (answer : Option Quantum) → new.inputs ≡ s.inputs → length s.quanta < MAX_QUANTA → may_go s.inputs s.quanta h ≡ true
     → IfSome answer (λ q. new.quanta ≡ s.quanta ++ q ∷ []) → IfSome answer (λ q. q ≡ quantum_of s.inputs 0 h turns (state_of s).kept) → IfNone answer (Halted s.inputs s.quanta h)
-    → ready ≡ ready_of (may_go s.inputs s.quanta) n → (work new.inputs new.quanta).kept.worked ≡ false → ready ≡ ready_of (or_hart (may_go new.inputs new.quanta) h) n
+    → ready ≡ ready_of (may_go s.inputs s.quanta) n → (after_quanta new.inputs new.quanta).kept.worked ≡ false → ready ≡ ready_of (or_hart (may_go new.inputs new.quanta) h) n
 takes_others s new h n turns ready (Some q) same few t taken asked none e idle =
     let hart : q.hart ≡ h = ap (λ (x : Quantum). x.hart) asked in
-    let now : work new.inputs new.quanta ≡ work s.inputs (s.quanta ++ q ∷ []) = ap₂ work same taken in
+    let now : after_quanta new.inputs new.quanta ≡ after_quanta s.inputs (s.quanta ++ q ∷ []) = ap₂ after_quanta same taken in
     others_kept s.inputs s.quanta q n ready e (ap (may_go s.inputs s.quanta) hart ∙ t) (ap (λ (x : State). x.kept.worked) (sym now) ∙ idle)
     ∙ ap₂ (λ (x : State) (m : ℕ). ready_of (or_hart (is_runnable x.kept.machine.core) m) n) (sym now) hart
 takes_others s new h n turns ready None same few t taken asked none e idle = absurd (true≢false (sym t ∙ stuck s.inputs s.quanta h few none))

@@ -7,18 +7,18 @@ use Rattle.turn_order.specs.Orders.{order_after, order_of_seed, picked}
 use Rattle.turn_order.specs.declared.order.Order.{Order}
 use Rattle.session_spec.specs.Inputs.{Inputs}
 use Rattle.session_spec.specs.States.{State}
-use Rattle.session_spec.specs.Work.{AreAllowed, AreAllowedFrom, IsAllowed, first_state, quantum_of, tend, work, work_from}
+use Rattle.session_spec.specs.Work.{AreAllowed, AreAllowedFrom, IsAllowed, first_state, quantum_of, after_quantum, after_quanta, after_quanta_from}
 use Rattle.whole_run.specs.Seeded.{IsSeeded, SomeSeeded}
 use Rattle.whole_run.proofs.Ordered.{Running, begins, ends, fills, goes_on, may_go}
 
 -- ---- allowed quanta
 
-allowed_from : (i : Inputs) (s : State) (quanta : List Quantum) (q : Quantum) → AreAllowedFrom i s quanta → IsAllowed i (work_from i quanta s).kept q → AreAllowedFrom i s (quanta ++ q ∷ [])
+allowed_from : (i : Inputs) (s : State) (quanta : List Quantum) (q : Quantum) → AreAllowedFrom i s quanta → IsAllowed i (after_quanta_from i quanta s).kept q → AreAllowedFrom i s (quanta ++ q ∷ [])
 allowed_from i s [] q before one = (one, tt)
-allowed_from i s (x ∷ quanta) q before one = (before.0, allowed_from i (tend i x.hart x.turns s) quanta q before.1 one)
+allowed_from i s (x ∷ quanta) q before one = (before.0, allowed_from i (after_quantum i x.hart x.turns s) quanta q before.1 one)
 
-pub allowed_more : (i : Inputs) (quanta : List Quantum) (q : Quantum) → AreAllowed i quanta → length quanta < MAX_QUANTA → IsAllowed i (work i quanta).kept q → AreAllowed i (quanta ++ q ∷ [])
-unfolding work
+pub allowed_more : (i : Inputs) (quanta : List Quantum) (q : Quantum) → AreAllowed i quanta → length quanta < MAX_QUANTA → IsAllowed i (after_quanta i quanta).kept q → AreAllowed i (quanta ++ q ∷ [])
+unfolding after_quanta
 allowed_more i quanta q before few one = record {
   each = allowed_from i (first_state i) quanta q before.each one;
   few = omega (arith, length-append quanta (q ∷ []));
@@ -40,9 +40,9 @@ module _ (i : Inputs) (seed turns : ℕ) (some : 1 ≤ turns) (most : turns ≤ 
       by : (o : Option ℕ) → picked order (may_go i quanta) i.settings.harts ≡ o → HasWhole
       by None e = (quanta, ends i seed turns count quanta order r a e)
       by (Some h) e =
-          let q : Quantum = quantum_of i 0 h turns (work i quanta).kept in
+          let q : Quantum = quantum_of i 0 h turns (after_quanta i quanta).kept in
           let may = picked_may order (may_go i quanta) i.settings.harts h e in
-          let one : IsAllowed i (work i quanta).kept q = record { worker = omega arith; hart = may.1; some = some; few = most; runnable = may.0; owns = refl } in
+          let one : IsAllowed i (after_quanta i quanta).kept q = record { worker = omega arith; hart = may.1; some = some; few = most; runnable = may.0; owns = refl } in
           let number = r.number in
           more (count + 1) (quanta ++ q ∷ []) (order_after order h) (omega (arith, sum)) (goes_on i seed turns count h quanta order q r e refl)
           (allowed_more i quanta q a (omega (arith, sum)) one)

@@ -12,25 +12,25 @@ use Rattle.machine.proofs.Lists.{get_set_other}
 use Rattle.machine.proofs.Steps.{fixed}
 use Rattle.instrument.specs.Books.{freed_point}
 use Rattle.instrument.specs.Handing.{event_of, is_barred}
-use Rattle.instrument.specs.Placements.{behind, front}
+use Rattle.instrument.specs.Placements.{after_first, front}
 use Rattle.instrument.specs.Scenes.{Admits, Drops, Hands, Happens, frees, hands, hands_by}
 use Rattle.instrument.specs.declared.entry.Entry.{Entry}
-use Rattle.instrumented.specs.Instrumented.{Instrumented, done, in_scene, repeated, scene_of, taken}
+use Rattle.instrumented.specs.Instrumented.{Instrumented, after_act, in_scene, repeated, scene_of, after_turns}
 use Rattle.instrumented.proofs.Acts.{done_is}
 use Rattle.instrumented.proofs.Harts.{hands_same}
 use Rattle.session_spec.specs.Inputs.{Inputs}
 use Rattle.session_spec.specs.Searches.{rules_of}
-use Rattle.session_spec.specs.States.{Kept, State}
+use Rattle.session_spec.specs.States.{SessionState, State}
 use Rattle.session_spec.specs.Admission.{with_admission}
 use Rattle.session_spec.specs.Turns.{handed_at_once, with_entries, with_hart}
 use Rattle.session_spec.specs.Due.{with_next}
-use Rattle.session_spec.specs.Work.{is_due, state_admitted, state_done, state_handed, state_quiet, state_turned, state_worked, tend}
+use Rattle.session_spec.specs.Work.{is_due, state_admitted, state_done, state_handed, state_quiet, state_turned, state_worked, after_quantum}
 use Rattle.session_spec.proofs.AdmittingSteps.{Keeps, admission_kept}
 
 -- ---- an admission leaves the machine as it is
 
 module _ (i : Inputs) (c : Core) where
-  abbrev Has : Kept → Type 0
+  abbrev Has : SessionState → Type 0
   Has k = k.machine.core ≡ c
 
   has_keeps : Keeps i Has
@@ -42,15 +42,15 @@ module _ (i : Inputs) (c : Core) where
     tested = λ k n node plan placer s w p m a e. ap (λ (d : Instrumented). d.core) (done_is (Admits plan (Some (rules_of i).decl.cost)) k.machine) ∙ e;
   }
 
-admission_same : (i : Inputs) (k : Kept) → (with_admission i k).machine.core ≡ k.machine.core
+admission_same : (i : Inputs) (k : SessionState) → (with_admission i k).machine.core ≡ k.machine.core
 admission_same i k = admission_kept i (Has i k.machine.core) (has_keeps i k.machine.core) k refl
 
 -- ---- an entry of the agenda leaves the harts and the budget as they are
 
-hands_budget : (m : Instrumented) → (done Hands m).core.budget ≡ m.core.budget
+hands_budget : (m : Instrumented) → (after_act Hands m).core.budget ≡ m.core.budget
 hands_budget m = ap (λ (d : Instrumented). d.core.budget) (done_is Hands m) ∙ by (front m.placer)
   where
-    freed : (b : Bool) (p : ℕ) → (in_scene (frees b p (behind m.placer) (scene_of m)).scene).core.budget ≡ m.core.budget
+    freed : (b : Bool) (p : ℕ) → (in_scene (frees b p (after_first m.placer) (scene_of m)).scene).core.budget ≡ m.core.budget
     freed true p = refl
     freed false p = refl
 
@@ -65,7 +65,7 @@ hands_budget m = ap (λ (d : Instrumented). d.core.budget) (done_is Hands m) ∙
 module _ (j : ℕ) where
   entries_same : (n : ℕ) (m : Instrumented) → is_runnable (repeated n Hands m).core j ≡ is_runnable m.core j
   entries_same zero m = refl
-  entries_same (suc n) m = entries_same n (done Hands m) ∙ ap₂ (λ (xs : List Hart) (b : ℕ). may_turn (slice_get xs j) b) (hands_same m) (hands_budget m)
+  entries_same (suc n) m = entries_same n (after_act Hands m) ∙ ap₂ (λ (xs : List Hart) (b : ℕ). may_turn (slice_get xs j) b) (hands_same m) (hands_budget m)
 
   -- ---- turns are another hart's
 
@@ -82,17 +82,17 @@ module _ (j : ℕ) where
       by true rest = rest ∙ turn_same (slice_get c.harts h) c h other
       by false rest = refl
 
-  taken_core : (turns : List Event) (m : Instrumented) → (taken turns m).core ≡ replay turns m.core
+  taken_core : (turns : List Event) (m : Instrumented) → (after_turns turns m).core ≡ replay turns m.core
   taken_core [] m = refl
-  taken_core (e ∷ turns) m = taken_core turns (done (Happens e) m) ∙ ap (λ (d : Instrumented). replay turns d.core) (done_is (Happens e) m)
+  taken_core (e ∷ turns) m = taken_core turns (after_act (Happens e) m) ∙ ap (λ (d : Instrumented). replay turns d.core) (done_is (Happens e) m)
 
   -- ---- a quantum
 
-  hart_same : (n h : ℕ) (k : Kept) → (j ≡ h → ⊥) → is_runnable (with_hart h n k).machine.core j ≡ is_runnable k.machine.core j
+  hart_same : (n h : ℕ) (k : SessionState) → (j ≡ h → ⊥) → is_runnable (with_hart h n k).machine.core j ≡ is_runnable k.machine.core j
   unfolding with_hart
   hart_same n h k other = let turns = quantum_turns n h k.machine.core in ap (λ c. is_runnable c j) (taken_core turns k.machine) ∙ turns_same n h k.machine.core other
 
-  handed_same : (k : Kept) → is_runnable (with_entries k).machine.core j ≡ is_runnable k.machine.core j
+  handed_same : (k : SessionState) → is_runnable (with_entries k).machine.core j ≡ is_runnable k.machine.core j
   unfolding with_entries
   handed_same k = entries_same handed_at_once k.machine
 
@@ -106,8 +106,8 @@ no_work i s idle = by (is_due s.kept) idle
     by false idle = refl
 
 -- Where no work was done at the end of a quantum, each other hart can take one exactly where it could before.
-pub others_stay : (i : Inputs) (h n j : ℕ) (s : State) → (j ≡ h → ⊥) → (tend i h n s).kept.worked ≡ false → is_runnable (tend i h n s).kept.machine.core j ≡ is_runnable s.kept.machine.core j
-unfolding tend
+pub others_stay : (i : Inputs) (h n j : ℕ) (s : State) → (j ≡ h → ⊥) → (after_quantum i h n s).kept.worked ≡ false → is_runnable (after_quantum i h n s).kept.machine.core j ≡ is_runnable s.kept.machine.core j
+unfolding after_quantum
 others_stay i h n j s other idle =
     let admitted = state_admitted i s in
     let turned = state_turned h n admitted in

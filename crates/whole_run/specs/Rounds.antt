@@ -5,7 +5,7 @@ use Rattle.turn_order.specs.declared.order.Order.{Order}
 use Rattle.turn_order.specs.Orders.{order_after, order_of_seed, ready_of}
 use Rattle.pn_types.specs.declared.quantum.Quantum.{Quantum}
 use Rattle.machine.specs.Turns.{is_runnable}
-use Rattle.session_spec.specs.Work.{first_state, work}
+use Rattle.session_spec.specs.Work.{first_state, after_quanta}
 use Rattle.session.specs.Sessions.{SessionData}
 use Rattle.whole_run.specs.Seeded.{AreInOrder}
 use Rattle.whole_run.specs.declared.order.Rounds.{Rounds}
@@ -24,4 +24,4 @@ pub record StandAt (r : Rounds) (s : SessionData) : Type 0 where
   pub turns : (1 ≤ r.turns) × (r.turns ≤ MAX_QUANTUM)
   pub ordered : AreInOrder s.inputs r.turns (order_of_seed r.seed) (first_state s.inputs) s.quanta
   pub order : r.order ≡ order_at (order_of_seed r.seed) s.quanta
-  pub ready : length s.quanta < MAX_QUANTA → r.ready ≡ ready_of (is_runnable (work s.inputs s.quanta).kept.machine.core) r.harts
+  pub ready : length s.quanta < MAX_QUANTA → r.ready ≡ ready_of (is_runnable (after_quanta s.inputs s.quanta).kept.machine.core) r.harts

@@ -7,14 +7,14 @@ use Rattle.pn_types.specs.declared.quantum.Quantum.{Quantum}
 use Rattle.machine.specs.Turns.{is_runnable}
 use Rattle.session_spec.specs.Inputs.{Inputs}
 use Rattle.session_spec.specs.States.{State}
-use Rattle.session_spec.specs.Work.{IsWhole, first_state, quantum_of, tend}
+use Rattle.session_spec.specs.Work.{IsWhole, first_state, quantum_of, after_quantum}
 
 -- each is worker 0's, of at most `turns` turns, and of the hart that is next among those that are runnable when it comes
 abbrev pub AreInOrder : Inputs → ℕ → Order → State → List Quantum → Type 0
 AreInOrder i turns order s [] = Unit {0}
 AreInOrder i turns order s (q ∷ quanta) =
     (picked order (is_runnable s.kept.machine.core) i.settings.harts ≡ Some q.hart) × (q ≡ quantum_of i 0 q.hart turns s.kept)
-    × AreInOrder i turns (order_after order q.hart) (tend i q.hart q.turns s) quanta
+    × AreInOrder i turns (order_after order q.hart) (after_quantum i q.hart q.turns s) quanta
 
 -- The whole list of quanta in the order of a seed.
 pub record IsSeeded (i : Inputs) (seed turns : ℕ) (quanta : List Quantum) : Type 0 where

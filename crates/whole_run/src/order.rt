@@ -2,8 +2,8 @@
 
 ghost use Rattle.std.specs.Prelude.{◌≡◌, ◌<◌, ◌≤◌, ◌==◌, ◌||◌, ◌++◌, ◌∷◌, [], false, length, IfNone, IfOk, IfSome, OnOk};
 ghost use Rattle.machine.specs.Turns.{is_runnable};
-ghost use Rattle.session.specs.Sessions.{begun};
-ghost use Rattle.session_spec.specs.Work.{work};
+ghost use Rattle.session.specs.Sessions.{new_session};
+ghost use Rattle.session_spec.specs.Work.{after_quanta};
 ghost use Rattle.turn_order.specs.Orders.{ready_of};
 ghost use Rattle.whole_run.specs.Rounds.{StandAt};
 ghost use Rattle.whole_run.specs.Seeded.{IsSeeded};
@@ -23,7 +23,7 @@ fn fill(session: &Session, harts: u32, ready: &mut Ready) -> Result<(), NoMemory
     requires few { harts ≤ MAX_HARTS }
     requires going { session.now.closed ≡ false }
     ensures { length session.now.quanta < MAX_QUANTA
-        → OnOk result (ready.new ≡ ready_of (is_runnable (work session.now.inputs session.now.quanta).kept.machine.core) harts) }
+        → OnOk result (ready.new ≡ ready_of (is_runnable (after_quanta session.now.inputs session.now.quanta).kept.machine.core) harts) }
 {
     ready.clear();
     for number in 0..harts {
@@ -44,10 +44,10 @@ fn refresh(session: &Session, harts: u32, hart: HartNo, ready: &mut Ready) -> Re
     requires few { harts ≤ MAX_HARTS }
     requires hart { hart < harts }
     requires going { session.now.closed ≡ false }
-    requires others { let kept = (work session.now.inputs session.now.quanta).kept in kept.worked ≡ false
+    requires others { let kept = (after_quanta session.now.inputs session.now.quanta).kept in kept.worked ≡ false
         → ready.old ≡ ready_of (λ h. (h == hart) || is_runnable kept.machine.core h) harts }
     ensures { length session.now.quanta < MAX_QUANTA
-        → OnOk result (ready.new ≡ ready_of (is_runnable (work session.now.inputs session.now.quanta).kept.machine.core) harts) }
+        → OnOk result (ready.new ≡ ready_of (is_runnable (after_quanta session.now.inputs session.now.quanta).kept.machine.core) harts) }
 {
     if session.worked() {
         return fill(session, harts, ready);
@@ -82,7 +82,7 @@ impl Rounds {
         seed: u32,
         turns: u32,
     ) -> Result<Rounds, NoMemory>
-        requires begun { session.now ≡ begun session.now.inputs }
+        requires begun { session.now ≡ new_session session.now.inputs }
         requires harts { harts ≡ session.now.inputs.settings.harts }
         requires few { harts ≤ MAX_HARTS }
         requires turns { (1 ≤ turns) × (turns ≤ MAX_QUANTUM) }
@@ -144,7 +144,7 @@ pub fn take_quanta(
     seed: u32,
     turns: u32,
 ) -> Result<(), NoMemory>
-    requires begun { session.old ≡ begun session.old.inputs }
+    requires begun { session.old ≡ new_session session.old.inputs }
     requires harts { harts ≡ session.old.inputs.settings.harts }
     requires few { harts ≤ MAX_HARTS }
     requires turns { (1 ≤ turns) × (turns ≤ MAX_QUANTUM) }

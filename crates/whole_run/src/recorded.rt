@@ -2,7 +2,7 @@
 
 ghost use Rattle.std.specs.Prelude.{◌≡◌, ◌≤◌, false, IfErr, IfOk, None};
 ghost use Rattle.session.specs.Given.{AreGiven};
-ghost use Rattle.session.specs.Sessions.{begun, IsStartFault};
+ghost use Rattle.session.specs.Sessions.{new_session, IsStartFault};
 ghost use Rattle.session_spec.specs.Opening.{bad_pick};
 ghost use Rattle.whole_run.specs.Recorded.{IsRecorded, IsRecordOf, log_of};
 
@@ -74,7 +74,7 @@ fn run_on(
     course: &Course,
 ) -> Result<Recorded, NoMemory>
     requires given { AreGiven session.old.inputs }
-    requires begun { session.old ≡ begun session.old.inputs }
+    requires begun { session.old ≡ new_session session.old.inputs }
     requires settings { settings.now ≡ session.old.inputs.settings }
     requires turns { (1 ≤ course.now.turns) × (course.now.turns ≤ MAX_QUANTUM) }
     ensures { IfOk result (IsRecorded session.old.inputs course.now) }

@@ -6,7 +6,7 @@ ghost use Rattle.pn_types.specs.declared.limits.TheConstants.{MAX_QUANTA};
 ghost use Rattle.quanta_log.specs.Spelling.{CanSpell, IsQuantum};
 ghost use Rattle.quanta_log.specs.declared.version.Version.TheVariants as version;
 ghost use Rattle.session.specs.Given.{AreGiven};
-ghost use Rattle.session.specs.Sessions.{begun};
+ghost use Rattle.session.specs.Sessions.{new_session};
 ghost use Rattle.session_spec.specs.Opening.{bad_pick};
 ghost use Rattle.session_spec.specs.Work.{IsWhole};
 ghost use Rattle.whole_run.specs.Recorded.{report_of};
@@ -20,7 +20,7 @@ use std::alloc::Global;
 
 /// Lets the harts of a session that just began take the quanta that are told.
 fn follow(session: &mut Session, quanta: &[Quantum]) -> Result<(), ReplayFault>
-    requires begun { session.old ≡ begun session.old.inputs }
+    requires begun { session.old ≡ new_session session.old.inputs }
     requires few { length quanta.now ≤ MAX_QUANTA }
     requires quanta { AllByRecursion (IsQuantum session.old.inputs.settings.harts) quanta.now }
     ensures inputs { session.new.inputs ≡ session.old.inputs }
@@ -55,7 +55,7 @@ fn run_along(
     quanta: &[Quantum],
     skipped: u32,
 ) -> Result<Vec<u8>, ReplayFault>
-    requires begun { session.old ≡ begun session.old.inputs }
+    requires begun { session.old ≡ new_session session.old.inputs }
     requires few { length quanta.now ≤ MAX_QUANTA }
     requires quanta { AllByRecursion (IsQuantum session.old.inputs.settings.harts) quanta.now }
     ensures fit { IfOk result (λ report. misfit_of session.old.inputs quanta.now ≡ None) }

@@ -3,7 +3,7 @@
 ghost use Rattle.std.specs.Prelude.{◌≡◌, ◌≤◌, ◌<◌, ◌^◌, IfErr, IfOk, None, length, sum_by};
 ghost use Rattle.pn_types.specs.declared.limits.TheConstants.{MAX_HARTS};
 ghost use Rattle.session.specs.Given.{AreGiven};
-ghost use Rattle.session.specs.Sessions.{begun, IsStartFault};
+ghost use Rattle.session.specs.Sessions.{new_session, IsStartFault};
 ghost use Rattle.session_spec.specs.Opening.{bad_pick};
 ghost use Rattle.whole_run.specs.Recorded.{AreSeededParts};
 
@@ -22,7 +22,7 @@ fn parts_on(
     turns: u32,
 ) -> Result<ReportParts, NoMemory>
     requires given { AreGiven session.old.inputs }
-    requires begun { session.old ≡ begun session.old.inputs }
+    requires begun { session.old ≡ new_session session.old.inputs }
     requires harts { harts ≡ session.old.inputs.settings.harts }
     requires turns { (1 ≤ turns) × (turns ≤ MAX_QUANTUM) }
     ensures seeded { IfOk result (AreSeededParts session.old.inputs seed turns) }

@@ -3,7 +3,7 @@
 ghost use Rattle.std.specs.Prelude.{◌≡◌, ◌-◌, ◌<◌};
 ghost use Rattle.std.specs.List.{AllByRecursion};
 ghost use Rattle.frame_walk.specs.Rooms.{IsSmall};
-ghost use Rattle.machine.specs.Effects.{after};
+ghost use Rattle.machine.specs.Effects.{after_event};
 ghost use Rattle.machine.specs.Events.{Arm, May};
 ghost use Rattle.test_examples.specs.FirstTurns.{turns};
 ghost use Rattle.machine.specs.Replays.{Legal, replay};
@@ -40,7 +40,7 @@ pub fn add_mini(machine: &mut Machine, mini: &Block)
 pub fn arm(machine: &mut Machine, counter: &Placed)
     requires may { May machine.old.core (Arm counter.now) }
     requires small { AllByRecursion IsSmall counter.now.opens }
-    ensures { machine.new ≡ with_core machine.old (after machine.old.core (Arm counter.now)) }
+    ensures { machine.new ≡ with_core machine.old (after_event machine.old.core (Arm counter.now)) }
 {
     machine.arm(counter);
 }

@@ -1,8 +1,8 @@
 use Rattle.std.proofs.Common.{◌≡◌, Err, refl, sym, subst}
-use Rattle.mdl_parse.specs.Meaning.{Faults, Refuses as ParseRefuses}
+use Rattle.mdl_parse.specs.Meaning.{Faults, ParseRefuses as ParseRefuses}
 use Rattle.mdl_parse.specs.declared.fault.ParseError.{ParseError}
 use Rattle.refusals.specs.Kinds.{fault_at, syntax_kind}
-use Rattle.refusals.specs.Refusals.{Refuses}
+use Rattle.refusals.specs.Refusals.{RefusalIs}
 use Rattle.refusals.specs.declared.configuration.ConfKind.{ConfKind}
 use Rattle.refusals.specs.declared.fault.Fault.TheVariants.{BadConf}
 use Rattle.refusals.specs.declared.refusal.Refusal.{Refusal}
@@ -17,7 +17,7 @@ pub returns-in-Err-Fault-clause-means : goal.returns-in-Err-Fault-clause-means
 returns-in-Err-Fault-clause-means c =
     let text = c.args.text.now in
     let fault = c.in-Err-Fault.fault in
-    subst (λ (e : Refusal). Refuses e (λ fault. MeansConf text (Err fault))) (sym c.bad_configuration.ensures) (
+    subst (λ (e : Refusal). RefusalIs e (λ fault. MeansConf text (Err fault))) (sym c.bad_configuration.ensures) (
       fault.line,
       fault.col,
       fault.kind,

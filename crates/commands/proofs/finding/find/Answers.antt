@@ -6,7 +6,7 @@ use Rattle.mdl_ast.specs.declared.items.Conf.{Conf}
 use Rattle.pn_types.specs.declared.code.Point.{Point}
 use Rattle.pn_types.specs.declared.code.Proc.{Proc}
 use Rattle.refusals.proofs.Steps.{handed_as}
-use Rattle.refusals.specs.Refusals.{Refuses}
+use Rattle.refusals.specs.Refusals.{RefusalIs}
 use Rattle.resource_tree.specs.Resources.{Resources}
 use Rattle.commands.specs.Found.{IsCheck, IsFound, AreFound}
 use Rattle.commands.specs.declared.finding.Found.{Found}
@@ -24,7 +24,7 @@ returns-in_err-checked-clause-found c =
     let e = c.in_err-checked.field-0.0 in
     let conf = c.args.conf.now in
     handed_as (IsFound c.args.image.now c.args.harts conf) e c.from_residual-in_err-checked.result c.from_residual-in_err-checked.ensures
-    (subst (λ (t : Resources). Refuses e (λ fault. IsCheck t conf (Err fault))) c.in_ok-tree.ensures.tree c.in_err-checked.ensures.checked)
+    (subst (λ (t : Resources). RefusalIs e (λ fault. IsCheck t conf (Err fault))) c.in_ok-tree.ensures.tree c.in_err-checked.ensures.checked)
 
 pub returns-clause-runs : goal.returns-clause-runs
 returns-clause-runs c =

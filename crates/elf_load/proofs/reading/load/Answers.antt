@@ -3,7 +3,7 @@ use Rattle.std.proofs.lemmas.Result.{MatchResult-weaker}
 use Rattle.std.specs.Prelude.{IfOk, Result, Ok, Err}
 use Rattle.elf_form.proofs.AcceptedImages.{accepted, good_modules}
 use Rattle.outside.specs.Outside.{IsBytes}
-use Rattle.elf_form.specs.Accepted.{IsAccepted}
+use Rattle.elf_form.specs.Accepted.{IsAcceptedImage}
 use Rattle.elf_form.specs.Meaning.{meaning_of}
 use Rattle.elf_form.specs.Segments.{loads_from}
 use Rattle.elf_form.specs.declared.fault.ElfError.{ElfError}
@@ -24,7 +24,7 @@ returns-clause-meaning c =
     subst (Means c.image_of.result)
     (tables_read c.args.bytes.now c.in_ok-header.header _ _ c.in_ok-header.ensures.header loads sections) c.image_of.ensures.meaning
 
-accepted_by : (b : List ℕ) (r : Result Image ElfError) → IsBytes b → Means r (meaning_of b) → IfOk r (λ image. length image.symbols < 2 ^ 32) → IfOk r IsAccepted
+accepted_by : (b : List ℕ) (r : Result Image ElfError) → IsBytes b → Means r (meaning_of b) → IfOk r (λ image. length image.symbols < 2 ^ 32) → IfOk r IsAcceptedImage
 accepted_by b (Ok image) bytes meant few = accepted b image bytes meant few
 accepted_by b (Err e) bytes meant few = tt
 

@@ -2,7 +2,7 @@ use Rattle.std.proofs.Common.{◌≡◌, ℕ, List, None, Result, Ok, Err, OnErr
 use Rattle.std.specs.Map.{lookup}
 use Rattle.indexmap.specs.IndexMap.{insert_entry}
 use Rattle.indexmap.proofs.CallerLemmas.{insert_entry-new}
-use Rattle.first_places.specs.Numbers.{IsAdded, IsKept}
+use Rattle.first_places.specs.Numbers.{IsAdded, IsUnchanged}
 use Rattle.first_places.proofs.Under.{added_here, added_last, kept_here}
 use Rattle.first_places.proofs.numbers.add_number.Goals as goal
 
@@ -19,7 +19,7 @@ on_err_of (Err y) p = p
 pub returns-in_err-push-clause-err : goal.returns-in_err-push-clause-err
 returns-in_err-push-clause-err c =
     on_err_of c.from_residual.result
-    (subst (IsKept (λ key. key.items) (λ own. own.items) c.args.numbers.now.entries) (sym (c.get_mut.follows.holds c.push.new.self).0)
+    (subst (IsUnchanged (λ key. key.items) (λ own. own.items) c.args.numbers.now.entries) (sym (c.get_mut.follows.holds c.push.new.self).0)
     (kept_here (λ key. key.items) (λ own. own.items) c.args.name.now c.in-Some.own.now c.push.new.self c.args.numbers.now.entries (sym c.in-Some.ensures.value) c.in_err-push.ensures.items))
 
 pub returns-clause-added : goal.returns-clause-added

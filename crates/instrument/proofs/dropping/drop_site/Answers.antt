@@ -1,6 +1,6 @@
 use Rattle.std.proofs.Common.{◌≡◌, ◌++◌, ◌∷◌, [], find, map, not, sym, ap, ◌∙◌}
 use Rattle.std.proofs.lemmas.List.{append_assoc}
-use Rattle.bucket_chains.specs.Left.{left}
+use Rattle.bucket_chains.specs.Left.{present_entries}
 use Rattle.bucket_chains.proofs.Walks.{left_map}
 use Rattle.instrument.specs.Agendas.{AgendaData}
 use Rattle.instrument.specs.Books.{is_base_of, is_mini_of, mini_leaves, removing, with_hold}
@@ -15,9 +15,9 @@ returns-clause-agenda c =
     let p = c.args.room.point in
     let m = c.args.room.at in
     let f = with_hold (mini_leaves m) in
-    let rooms = map f (left c.args.rooms.now.places) in
+    let rooms = map f (present_entries c.args.rooms.now.places) in
     let entries = c.args.agenda.now.entries in
-    let left_is = ap (λ (r : RoomPlaces). left r.places) c.leave_mini.ensures ∙ left_map f c.args.rooms.now.places in
+    let left_is = ap (λ (r : RoomPlaces). present_entries r.places) c.leave_mini.ensures ∙ left_map f c.args.rooms.now.places in
     let mini : find (is_mini_of p) rooms ≡ c.find_mini.result = sym (c.find_mini.ensures ∙ ap (find (is_mini_of p)) left_is) in
     let first = ap (λ (a : AgendaData). a.entries) c.push.ensures in
     let last = ap (λ (a : AgendaData). a.entries) c.push-2.ensures in

@@ -1,5 +1,5 @@
 use Rattle.std.proofs.Common.{◌≡◌, ℕ, suc, ◌-◌, ◌<◌, ◌≤◌, length, take, None, sym, ap, subst, ◌∙◌, arith, rules}
-use Rattle.bucket_chains.specs.Left.{left}
+use Rattle.bucket_chains.specs.Left.{present_entries}
 use Rattle.instrument.proofs.GivenBack.{IsGiving, giving_begun, giving_more, giving_on, giving_over, reserved, some_words, was_taken}
 use Rattle.instrument.proofs.giving.give_behind.Goals as goal
 
@@ -41,7 +41,7 @@ loop-place-preserved c =
 
 pub returns-else-place-gt0-clause-rooms : goal.returns-else-place-gt0-clause-rooms
 returns-else-place-gt0-clause-rooms c =
-    let none = subst (λ n. left c.loop-place.rooms.places ≡ left (take n c.args.rooms.now.places)) (none_left c.loop-place.place c.if-place-gt0.false) c.loop-place.invariant.left_is in
+    let none = subst (λ n. present_entries c.loop-place.rooms.places ≡ present_entries (take n c.args.rooms.now.places)) (none_left c.loop-place.place c.if-place-gt0.false) c.loop-place.invariant.left_is in
     giving_over c.args.count c.args.rooms.now c.args.words.now c.loop-place.rooms c.loop-place.words c.loop-place.place c.loop-place.invariant (omega (arith, ap length none))
 
 pub returns-else-place-gt0-clause-spare : goal.returns-else-place-gt0-clause-spare

@@ -2,7 +2,7 @@ use Rattle.std.proofs.Common.{◌≡◌, ◌+◌, ◌<◌, length, Ok, vec_len, 
 use Rattle.std.proofs.lemmas.List.{length-map}
 use Rattle.std.proofs.lemmas.Result.{IfOk-weaker}
 use Rattle.std.specs.Prelude.{slice_index_or}
-use Rattle.live_run.specs.Serving.{IsServed}
+use Rattle.live_run.specs.Serving.{HasServed}
 use Rattle.live_run.specs.Seats.{SeatData, fresh_seat}
 use Rattle.live_run.proofs.Wholes.{fresh_at, all_served, index_map, length_fresh}
 use Rattle.live_run.proofs.live.serve_all.Goals as goal
@@ -34,7 +34,7 @@ returns-clause-served g c =
     let few : i < length c.args.seats.items = omega arith in
     let j = (c.in_ok-results.ensures.each i (Ok d) few).1 in
     let at : j.job ≡ fresh_seat i = sym (j.job_is d) ∙ ap (λ (l : List SeatData). slice_index_or l i d) c.requires.seats ∙ fresh_at c.args.team.workers i d (omega arith) in
-    let one : IsServed c.args.team.harts c.args.team.workers c.args.team.turns j.job.worker (slice_index_or served.items i d) =
+    let one : HasServed c.args.team.harts c.args.team.workers c.args.team.turns j.job.worker (slice_index_or served.items i d) =
     rw (ap (λ l. slice_index_or l i (Ok d)) are ∙ index_map (λ x. Ok x) served.items i d) at j.call.met in
-    subst (λ (n : ℕ). IsServed c.args.team.harts c.args.team.workers c.args.team.turns n (slice_index_or served.items i d)) (ap (λ (k : SeatData). k.worker) at ∙ (let z : i ≡ 0 + i = omega arith in z)) one))
+    subst (λ (n : ℕ). HasServed c.args.team.harts c.args.team.workers c.args.team.turns n (slice_index_or served.items i d)) (ap (λ (k : SeatData). k.worker) at ∙ (let z : i ≡ 0 + i = omega arith in z)) one))
     c.all_seats.ensures

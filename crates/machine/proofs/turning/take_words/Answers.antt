@@ -2,7 +2,7 @@ use Rattle.std.proofs.Common.{◌≡◌, ◌+◌, ◌≤◌, ◌∙◌, None, sy
 use Rattle.std.specs.Prelude.{false, IsTrue}
 use Rattle.rv_exec.specs.Shared.{prog_in}
 use Rattle.tramp_spec.specs.Harts.{Hart, Solo}
-use Rattle.machine.specs.Alone.{alone_of, may_alone, Leads}
+use Rattle.machine.specs.Alone.{alone_of, may_alone, TurnsLead}
 use Rattle.machine.specs.contracts.hart.HartState.{the_view}
 use Rattle.machine.proofs.Stretches.{are_turns, left, left_standing, outside_below}
 use Rattle.machine.proofs.turning.take_words.Goals as goal
@@ -31,6 +31,6 @@ returns-clause-leads c =
     let ends = ap (λ b. alone_of (record { pc = t.pc; ticks = a.ticks + n; inside = b }) y q) (sym outside) in
     let after = alone_of (record { pc = t.pc; ticks = a.ticks + n; inside = a.inside }) y q in
     let ran = are_turns s c.args.number c.args.budget x.bank (left t.pc t.stop t.regs q) n a.ticks (left a.pc None x.regs p) c.run_words-turns.ensures.ran within in
-    subst (λ (h : Hart). Leads s c.args.budget c.args.number n (alone_of a h p) after) c.hart.view_is
-    (subst (λ (v : Solo). Leads s c.args.budget c.args.number n v after) begins
-    (subst (λ (v : Solo). Leads s c.args.budget c.args.number n (left_standing a.ticks x.bank (left a.pc None x.regs p)) v) ends ran))
+    subst (λ (h : Hart). TurnsLead s c.args.budget c.args.number n (alone_of a h p) after) c.hart.view_is
+    (subst (λ (v : Solo). TurnsLead s c.args.budget c.args.number n v after) begins
+    (subst (λ (v : Solo). TurnsLead s c.args.budget c.args.number n (left_standing a.ticks x.bank (left a.pc None x.regs p)) v) ends ran))

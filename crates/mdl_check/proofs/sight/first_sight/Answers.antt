@@ -2,8 +2,8 @@ use Rattle.std.proofs.Common.{◌==◌, ◌&&◌, Bool, Option, Some, bytes_eq, 
 use Rattle.pn_types.specs.declared.focus.Focus.{Focus}
 use Rattle.mdl_ast.specs.declared.items.Item.{Item}
 use Rattle.mdl_check.specs.Rules.{is_shown_by, is_same_focus}
-use Rattle.mdl_check.specs.Sights.{is_same_sight, sight}
-use Rattle.mdl_check.specs.declared.sight.Sight.{Sight}
+use Rattle.mdl_check.specs.Sights.{is_same_sight, metric_focus}
+use Rattle.mdl_check.specs.declared.sight.MetricFocus.{MetricFocus}
 use Rattle.mdl_check.proofs.Befores.{same_sight}
 use Rattle.mdl_check.proofs.sight.first_sight.Goals as goal
 
@@ -17,4 +17,4 @@ returns-then-wish c metric f =
     ∙ ap (λ (b : Bool). b && bytes_eq metric.now w.metric && is_same_focus (Some f) (Some g)) c.if-wish.true
     ∙ ap (λ n. bytes_eq metric.now n && is_same_focus (Some f) (Some g)) (sym c.bytes.ensures)
     ∙ same_sight metric c.bytes.result f g
-    ∙ ap (λ (s : Sight). is_same_sight s (sight metric f)) (sym c.new.ensures)
+    ∙ ap (λ (s : MetricFocus). is_same_sight s (metric_focus metric f)) (sym c.new.ensures)

@@ -8,7 +8,7 @@ use Rattle.pn_types.specs.declared.plan.Site.{Site}
 use Rattle.pn_types.specs.declared.plan.Var.{Var}
 use Rattle.resource_tree.specs.Foci.{part}
 use Rattle.mdl_plan.specs.Plans.{is_crowded, opens_of, scene_of, sites_of, vars_of}
-use Rattle.mdl_plan.specs.ChosenPieces.{Refuses, has_numbers, opens_with, sites_with}
+use Rattle.mdl_plan.specs.ChosenPieces.{PlanRefuses, has_numbers, opens_with, sites_with}
 use Rattle.mdl_plan.specs.declared.fault.PlanFault.{PlanFault}
 use Rattle.mdl_plan.proofs.Counts.{few_pass}
 use Rattle.mdl_plan.proofs.Outcomes.{scene_opens, scene_sites, many_sites, too_many, refused, done}
@@ -47,7 +47,7 @@ returns-in_err-sites-clause-answer c =
     fault c.from_residual-in_err-sites.result is
     (scene_sites scene s.terms s.pieces.items s.chosen reached points c.in_ok-reached.ensures.points e.pieces e.chosen e.terms)
     (many_sites s.terms s.pieces.items s.chosen reached ∙ sym (c.count-sites.ensures ∙ ap (λ refs. length (filter (has_numbers s.chosen) (behind refs))) c.deref-2.ensures.value)) (omega arith)
-    (subst (λ (refs : List (Bor Point)). Refuses fault (sites_with s.terms s.pieces.items s.chosen (behind refs))) c.deref-3.ensures.value c.in_err-sites.ensures.refused)
+    (subst (λ (refs : List (Bor Point)). PlanRefuses fault (sites_with s.terms s.pieces.items s.chosen (behind refs))) c.deref-3.ensures.value c.in_err-sites.ensures.refused)
 
 pub returns-clause-answer : goal.returns-clause-answer
 returns-clause-answer c =

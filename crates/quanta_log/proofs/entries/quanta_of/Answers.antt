@@ -1,6 +1,6 @@
 use Rattle.std.proofs.Common.{◌≡◌, ◌+◌, ◌-◌, ◌++◌, ◌∷◌, [], None, ap, sym, ◌∙◌, arith, rules}
 use Rattle.quanta_log.specs.Fields.{head_len, entry_len}
-use Rattle.quanta_log.specs.Meaning.{harts_of, quantum_at, quanta_at, entry_fault, entries_fault}
+use Rattle.quanta_log.specs.Meaning.{log_harts, quantum_at, quanta_at, entry_fault, entries_fault}
 use Rattle.quanta_log.proofs.EntryLemmas.{fault_here, fault_later, quantum_more}
 use Rattle.quanta_log.proofs.entries.quanta_of.Goals as goal
 
@@ -11,7 +11,7 @@ returns-in-Some c =
     let harts = c.word-harts.result in
     let count = c.doubleword-count.result in
     let total = entries_fault v harts b count (head_len v) in
-    sym (ap (λ n. entries_fault v (harts_of b) b n (head_len v)) c.doubleword-count.ensures)
+    sym (ap (λ n. entries_fault v (log_harts b) b n (head_len v)) c.doubleword-count.ensures)
     ∙ sym (ap (λ h. entries_fault v h b count (head_len v)) c.word-harts.ensures)
     ∙ fault_here v harts b count c.loop.counter c.loop.at total c.in-Some.fault c.loop-test.true (sym c.in-Some.ensures) c.loop.invariant.fault
 

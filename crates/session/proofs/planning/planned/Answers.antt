@@ -1,6 +1,6 @@
 use Rattle.std.proofs.Common.{rules, ◌≡◌, List, Result, Ok, Err, ap, sym, ◌∙◌, arith, subst, length}
 use Rattle.pn_types.specs.declared.plan.Plan.{Plan}
-use Rattle.mdl_plan.specs.Plans.{Answers}
+use Rattle.mdl_plan.specs.Plans.{IsPlanOr}
 use Rattle.mdl_plan.specs.declared.fault.PlanError.{PlanError}
 use Rattle.mdl_plan.specs.declared.fault.PlanFault.{PlanFault}
 use Rattle.session_spec.specs.Inputs.{Inputs, planned}
@@ -35,9 +35,9 @@ returns-in_err-whole-clause-answer c =
     let many = ap (λ (ms : List Metric). length ms) c.as_slice.ensures in
     let fault = c.in_err-whole.field-0.0 in
     let is : c.from_residual.result ≡ Err fault = search rules in
-    let refused : Answers (Err fault) (planned i metric focus) = answers_planned i metric focus (Err fault) (omega arith) c.in_err-whole.ensures.answer in
-    subst (λ (r : Result Plan PlanError). Answers r (planned c.args.inputs.now metric focus)) (sym is)
-    (subst (λ (j : Inputs). Answers (Err fault) (planned j metric focus)) c.inputs.view_is refused)
+    let refused : IsPlanOr (Err fault) (planned i metric focus) = answers_planned i metric focus (Err fault) (omega arith) c.in_err-whole.ensures.answer in
+    subst (λ (r : Result Plan PlanError). IsPlanOr r (planned c.args.inputs.now metric focus)) (sym is)
+    (subst (λ (j : Inputs). IsPlanOr (Err fault) (planned j metric focus)) c.inputs.view_is refused)
 
 pub returns-clause-short : goal.returns-clause-short
 returns-clause-short c =

@@ -1,7 +1,7 @@
 use Rattle.std.proofs.Common.{◌∙◌, ap, sym}
 use Rattle.std.specs.Prelude.{cond}
 use Rattle.instrument.specs.Scenes.{Arms}
-use Rattle.instrumented.specs.Instrumented.{Instrumented, done}
+use Rattle.instrumented.specs.Instrumented.{Instrumented, after_act}
 use Rattle.session_kits.proofs.Arms.{armed_machine, armed_now, armed_there, placing, ready, same, same_kit, unlinked, unready}
 use Rattle.session_kits.proofs.arming.arm_kit.Goals as goal
 
@@ -25,7 +25,7 @@ returns-then-not-arm-clause-machine c =
     let d = c.args.machine.now in
     let k = c.args.kit.now in
     let off = unlinked d.state k (sym c.is_placing.ensures ∙ c.if-not-is_placing.false) (sym c.arm.ensures.linked ∙ c.if-not-arm.true) in
-    c.arm.ensures.state ∙ (ap (λ b. record d { state = cond b (done (Arms k.shown.instrument.n) d.state) d.state }) c.if-not-arm.true ∙ ap (λ (x : Instrumented). record d { state = x }) (same d.state k off))
+    c.arm.ensures.state ∙ (ap (λ b. record d { state = cond b (after_act (Arms k.shown.instrument.n) d.state) d.state }) c.if-not-arm.true ∙ ap (λ (x : Instrumented). record d { state = x }) (same d.state k off))
 
 pub returns-then-not-arm-clause-kit : goal.returns-then-not-arm-clause-kit
 returns-then-not-arm-clause-kit c =

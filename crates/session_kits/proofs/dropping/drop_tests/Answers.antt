@@ -2,7 +2,7 @@ use Rattle.std.proofs.Common.{◌≡◌, ℕ, ◌+◌, ◌<◌, List, drop, get_
 use Rattle.std.proofs.lemmas.List.{drop_more}
 use Rattle.instrumented.specs.Data.{InstrumentedData}
 use Rattle.instrumented.specs.Instrumented.{Instrumented}
-use Rattle.session_spec.specs.declared.data.Shown.{Shown}
+use Rattle.session_spec.specs.declared.data.MetricFocusPair.{MetricFocusPair}
 use Rattle.session_spec.specs.Verdicts.{tester_of}
 use Rattle.session_kits.specs.Kits.{AreLive, dropped_by, dropped_tests}
 use Rattle.session_kits.proofs.Dropped.{shown_in}
@@ -10,7 +10,7 @@ use Rattle.session_kits.proofs.Live.{live_dropped}
 use Rattle.session_kits.proofs.dropping.drop_tests.Goals as goal
 
 -- a node more
-one_more : (nodes : List ℕ) (ss : List Shown) (m new : Instrumented) (i : ℕ) → i < length nodes → new ≡ dropped_by (tester_of m.placer (get_or nodes i 0) ss) m
+one_more : (nodes : List ℕ) (ss : List MetricFocusPair) (m new : Instrumented) (i : ℕ) → i < length nodes → new ≡ dropped_by (tester_of m.placer (get_or nodes i 0) ss) m
     → dropped_tests (drop (i + 1) nodes) ss new ≡ dropped_tests (drop i nodes) ss m
 one_more nodes ss m new i l e = ap (dropped_tests (drop (i + 1) nodes) ss) e ∙ sym (ap (λ (ns : List ℕ). dropped_tests ns ss m) (drop_more nodes i 0 l))
 

@@ -2,7 +2,7 @@ use Rattle.std.proofs.Common.{◌≡◌, ℕ, ◌+◌, ◌<◌, ◌≤◌, List,
 use Rattle.std.specs.Prelude.{vec_len}
 use Rattle.instrumented.specs.Instrumented.{Instrumented}
 use Rattle.w3_search.specs.declared.node.NodeSample.{NodeSample}
-use Rattle.session_spec.specs.declared.data.Latest.{Latest}
+use Rattle.session_spec.specs.declared.data.LatestSample.{LatestSample}
 use Rattle.session_kits.specs.declared.kit.Kit.{Kit}
 use Rattle.session_kits.specs.Kits.{kit_ticks, latest_by, test_by}
 use Rattle.session_kits.proofs.Places.{Here, Walk, few_live, turn_last, turn_next, walk_at, walk_end, walk_on, walk_start, walk_within}
@@ -10,7 +10,7 @@ use Rattle.session_kits.proofs.Walks.{AreSampled, all_sampled, behind_within, fe
 use Rattle.session_kits.proofs.sampling.sample_kits.Goals as goal
 
 -- the pair that was read in a turn is at its place
-here : {m : Instrumented} {time : ℕ} {marks : List ℕ} {old : List Kit} {ls : List Latest} {ts : List NodeSample} {latest : List Latest} {tests : List NodeSample} {wished : ℕ} {now : List Kit}
+here : {m : Instrumented} {time : ℕ} {marks : List ℕ} {old : List Kit} {ls : List LatestSample} {ts : List NodeSample} {latest : List LatestSample} {tests : List NodeSample} {wished : ℕ} {now : List Kit}
     (live : List ℕ) (turn at : ℕ) (k : Kit) → turn < length live → at ≡ get_or live turn at → k ≡ get_or now at k
     → Walk (AreSampled m time marks old ls ts latest tests wished) m.placer now (drop turn live) → Here (AreSampled m time marks old ls ts latest tests wished) m.placer now at k (drop (turn + 1) live)
 here {m} {time} {marks} {old} {ls} {ts} {latest} {tests} {wished} live turn at k l e is w =
@@ -96,7 +96,7 @@ loop-turn-preserved c =
     let next = c.place_behind-wished.result in
     let holds = sampled_more m time marks old ls ts latest tests wished h.front k h.behind h.holds bin c.sample_kit-bin.ensures.bin new now_latest now_tests next c.sample_kit-bin.ensures.kit
     c.put_latest.ensures.items c.put_test.ensures.items c.place_behind-wished.ensures in
-    let more = ap (λ (xs : List Latest). length xs) c.put_latest.ensures.items ∙ length-append latest (latest_by k.shown.node wished bin) in
+    let more = ap (λ (xs : List LatestSample). length xs) c.put_latest.ensures.items ∙ length-append latest (latest_by k.shown.node wished bin) in
     let more_tests = ap (λ (xs : List NodeSample). length xs) c.put_test.ensures.items ∙ length-append tests (test_by k.shown.node ticks bin) in
     record {
       walk = walk_on h (AreSampled m time marks old ls ts now_latest now_tests next) m.placer h.places new holds;

@@ -1,7 +1,7 @@
 use Rattle.std.proofs.Common.{◌≡◌, ◌∙◌, List, length, map, ap, subst, sym}
 use Rattle.std.proofs.lemmas.List.{length-map}
 use Rattle.std.specs.List.{AllByRecursion}
-use Rattle.session_spec.specs.declared.data.Latest.{Latest}
+use Rattle.session_spec.specs.declared.data.LatestSample.{LatestSample}
 use Rattle.atomic_table.specs.Seated.{TableId}
 use Rattle.visi_run.specs.Gauges.{AreOf, Dial}
 use Rattle.visi_run.specs.Streams.{Watch}
@@ -43,4 +43,4 @@ returns-clause-last g c =
 pub returns-clause-feed : goal.returns-clause-feed
 returns-clause-feed g c =
     let first : HasRun c.args.session.inputs c.in_ok-rounds.rounds.seed c.in_ok-rounds.rounds.turns c.new-outlet.result c.in_ok-session.session c.in_ok-session.outlet = rw c.in_ok-session.was at c.join-seats.ensures.second in
-    subst (λ (l : List Latest). AllByRecursion (λ (xs : List Latest). xs ≡ l) (map (λ v. v.items) c.in_ok-lists.lists.items)) first.feed c.in_ok-lists.ensures.whole
+    subst (λ (l : List LatestSample). AllByRecursion (λ (xs : List LatestSample). xs ≡ l) (map (λ v. v.items) c.in_ok-lists.lists.items)) first.feed c.in_ok-lists.ensures.whole

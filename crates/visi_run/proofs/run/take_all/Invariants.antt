@@ -2,7 +2,7 @@ use Rattle.std.proofs.Common.{◌≡◌}
 use Rattle.std.specs.Prelude.{false}
 use Rattle.session.specs.Sessions.{state_of}
 use Rattle.whole_run.specs.Rounds.{StandAt}
-use Rattle.visi_run.specs.Steps.{IsTold}
+use Rattle.visi_run.specs.Steps.{HasPublished}
 use Rattle.visi_run.proofs.run.take_all.Given as goal
 
 -- all samples so far are published, to the same views
@@ -12,7 +12,7 @@ invariant-quanta g l = record {
   seed : l.rounds.seed ≡ l.fn.rounds.seed;
   turns : l.rounds.turns ≡ l.fn.rounds.turns;
   inputs : l.session.inputs ≡ l.initial.session.inputs;
-  told : IsTold l.outlet (state_of l.session) false;
+  told : HasPublished l.outlet (state_of l.session) false;
   lines : l.outlet.publisher.lines ≡ l.initial.outlet.publisher.lines;
   cell : l.outlet.writer.cell ≡ l.initial.outlet.writer.cell;
 }

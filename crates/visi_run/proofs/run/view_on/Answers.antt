@@ -4,7 +4,7 @@ use Rattle.std.proofs.lemmas.Result.{IfOk-weaker}
 use Rattle.std.specs.Prelude.{min, replicate}
 use Rattle.report.specs.declared.parts.ReportParts.{ReportParts}
 use Rattle.session_spec.specs.Inputs.{Inputs}
-use Rattle.session_spec.specs.Work.{closed, work}
+use Rattle.session_spec.specs.Work.{final_state, after_quanta}
 use Rattle.session_spec.specs.Bins.{AreRecorded}
 use Rattle.session_spec.specs.Feed.{IsFeed}
 use Rattle.session.specs.Parts.{parts_of}
@@ -43,8 +43,8 @@ returns g c =
     c.as_slice.ensures ∙ (ap (λ (p : ReportParts). p.shown) (c.in_ok-parts.ensures.parts ∙ ap (parts_of s.inputs) (closed_state s e.inputs.1)) ∙ ap (λ (j : Inputs). shown_of j s.quanta) e.inputs.0) in
     let given : lists ≡ replicate c.args.course.views feed =
     all_same feed lists e.feed ∙ ap (λ n. replicate n feed) (length-map c.in_ok-streamed.streamed.lists.items (λ v. v.items) ∙ e.count) in
-    let state : state_of s ≡ closed i (work i s.quanta) = closed_state s e.inputs.1 ∙ ap (λ (j : Inputs). closed j (work j s.quanta)) e.inputs.0 in
-    let recorded : AreRecorded i (closed i (work i s.quanta)) = subst (AreRecorded i) state (subst (λ (j : Inputs). AreRecorded j (state_of s)) e.inputs.0 c.laws.ensures.bins) in
+    let state : state_of s ≡ final_state i (after_quanta i s.quanta) = closed_state s e.inputs.1 ∙ ap (λ (j : Inputs). final_state j (after_quanta j s.quanta)) e.inputs.0 in
+    let recorded : AreRecorded i (final_state i (after_quanta i s.quanta)) = subst (AreRecorded i) state (subst (λ (j : Inputs). AreRecorded j (state_of s)) e.inputs.0 c.laws.ensures.bins) in
     IfOk-weaker c.visi_text.result _ _
     (λ text are. record {
       quanta = s.quanta;

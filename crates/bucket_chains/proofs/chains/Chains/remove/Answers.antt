@@ -1,7 +1,7 @@
 use Rattle.std.proofs.Common.{◌≡◌, ◌+◌, ◌<◌, None, Some, length, get_or, set, sym, ap, subst, ◌∙◌, arith}
 use Rattle.std.specs.Vec.{vec_len, vec_capacity}
 use Rattle.bucket_chains.specs.Entries.{bucket_at, IsFirst}
-use Rattle.bucket_chains.specs.Chained.{IsBehind, IsChained, HasRoom}
+use Rattle.bucket_chains.specs.Chained.{IsNextBelow, IsChained, HasRoom}
 use Rattle.bucket_chains.proofs.Places.{within}
 use Rattle.bucket_chains.proofs.RemovedEntry.{reads}
 use Rattle.bucket_chains.proofs.Removed.{Backward, both, first_leaves, later_leaves, last_leaves, earlier_leaves}
@@ -16,7 +16,7 @@ index_mut-requires-in-Some-before c =
     let place = c.args.place in
     let chained = c.self.invariant.0 in
     let e = reads s b place c.index.result.now c.index-next.result.now c.index-before.result.now chained (omega (arith, c.requires, ap length (ap (λ v. v.buckets) c.self.view_is))) c.index.ensures c.in-Some.is c.index-next.ensures c.index-before.ensures in
-    let behind : IsBehind b (Some c.in-Some-before.before) place es = subst (λ r. IsBehind b r place es) c.in-Some-before.is e.precedes in
+    let behind : IsNextBelow b (Some c.in-Some-before.before) place es = subst (λ r. IsNextBelow b r place es) c.in-Some-before.is e.precedes in
     omega (arith, behind.0, e.within, chained.next_places)
 
 pub index_mut-requires-in-None : goal.index_mut-requires-in-None
@@ -80,7 +80,7 @@ invariant_of-self c =
           (sym w.self-inside-is) (
             rw w.before-is (rw (sym e.next_is)
                 (both
-                (later_leaves es b place e.there ns ps fs ls chained w.in-Some-before.before (subst (λ r. IsBehind b r place es) w.in-Some-before.is e.precedes))
+                (later_leaves es b place e.there ns ps fs ls chained w.in-Some-before.before (subst (λ r. IsNextBelow b r place es) w.in-Some-before.is e.precedes))
                 (subst (λ r. Backward (set es place None) (set ps c.in-Some-next.next r) ls) (e.before_is ∙ w.in-Some-before.is) back))),
             c.self.invariant.1,
           )
@@ -91,7 +91,7 @@ invariant_of-self c =
           (sym w.self-inside-is) (
             rw w.before-is (rw w.in-None.is (rw (sym e.next_is)
                 (both
-                (first_leaves es b place e.there ns ps fs ls chained (subst (λ r. IsBehind b r place es) w.in-None.is e.precedes))
+                (first_leaves es b place e.there ns ps fs ls chained (subst (λ r. IsNextBelow b r place es) w.in-None.is e.precedes))
                 (subst (λ r. Backward (set es place None) (set ps c.in-Some-next.next r) ls) (e.before_is ∙ w.in-None.is) back)))),
             c.self.invariant.1,
           )
@@ -119,7 +119,7 @@ invariant_of-self-in-None-next c =
           (sym w.self-inside-is) (
             rw w.before-is (rw (sym e.next_is)
                 (both
-                (later_leaves es b place e.there ns ps fs ls chained w.in-Some-before.before (subst (λ r. IsBehind b r place es) w.in-Some-before.is e.precedes))
+                (later_leaves es b place e.there ns ps fs ls chained w.in-Some-before.before (subst (λ r. IsNextBelow b r place es) w.in-Some-before.is e.precedes))
                 (subst (λ r. Backward (set es place None) ps (set ls b r)) (e.before_is ∙ w.in-Some-before.is) back))),
             c.self.invariant.1,
           )
@@ -130,7 +130,7 @@ invariant_of-self-in-None-next c =
           (sym w.self-inside-is) (
             rw w.before-is (rw w.in-None.is (rw (sym e.next_is)
                 (both
-                (first_leaves es b place e.there ns ps fs ls chained (subst (λ r. IsBehind b r place es) w.in-None.is e.precedes))
+                (first_leaves es b place e.there ns ps fs ls chained (subst (λ r. IsNextBelow b r place es) w.in-None.is e.precedes))
                 (subst (λ r. Backward (set es place None) ps (set ls b r)) (e.before_is ∙ w.in-None.is) back)))),
             c.self.invariant.1,
           )

@@ -2,7 +2,7 @@ use Rattle.std.proofs.Common.{rules, Option, length, sym, ap, subst, ◌∙◌, 
 use Rattle.std.specs.Option.{is_some}
 use Rattle.std.proofs.lemmas.Fn.{filter_same}
 use Rattle.std.proofs.lemmas.List.{length-map}
-use Rattle.bucket_chains.specs.Left.{left}
+use Rattle.bucket_chains.specs.Left.{present_entries}
 use Rattle.instrument.specs.RoomPlaces.{AreIndexed, RoomEntries, RoomPlaces, bucket_by, point_key}
 use Rattle.instrument.specs.declared.room.Room.{Room}
 use Rattle.instrument.proofs.RoomLists.{left_filled}
@@ -12,7 +12,7 @@ pub invariant_of-self : goal.invariant_of-self
 invariant_of-self c =
     let places = c.self.inside.places.items in
     let filled = filter_same _ (λ (o : Option Room). is_some o) _ (λ x b f' k. search rules) _ _ c.retain.ensures.filtered in
-    let same = ap left filled ∙ left_filled places in
+    let same = ap present_entries filled ∙ left_filled places in
     record {
       indexed = subst (λ ps. AreIndexed ps c.enter.new.index) c.deref.ensures.value c.enter.ensures.indexed;
       counted = c.self.invariant.counted ∙ sym (ap length same);
@@ -23,4 +23,4 @@ invariant_of-self c =
 pub returns-clause-rooms : goal.returns-clause-rooms
 returns-clause-rooms c =
     let filled = filter_same _ (λ (o : Option Room). is_some o) _ (λ x b f' k. search rules) _ _ c.retain.ensures.filtered in
-    ap left filled ∙ left_filled c.self.inside.places.items ∙ ap (λ (r : RoomPlaces). left r.places) c.self.view_is
+    ap present_entries filled ∙ left_filled c.self.inside.places.items ∙ ap (λ (r : RoomPlaces). present_entries r.places) c.self.view_is

@@ -2,7 +2,7 @@ use Rattle.std.proofs.Common.{◌≡◌, ◌<◌, length, set, None, Some, refl,
 use Rattle.std.proofs.lemmas.List.{length-set}
 use Rattle.std.specs.Vec.{vec_capacity, vec_len}
 use Rattle.bucket_chains.specs.Entries.{bucket_of}
-use Rattle.bucket_chains.specs.Left.{left}
+use Rattle.bucket_chains.specs.Left.{present_entries}
 use Rattle.bucket_chains.proofs.Nexts.{buckets_len, places_from}
 use Rattle.bucket_chains.proofs.Skips.{Follows, place_filled, place_nearer, place_within}
 use Rattle.bucket_chains.proofs.Walks.{left_map}
@@ -67,5 +67,5 @@ returns-clause-places c = changing_over at_key (bucket_of c.args.at) (unlinked_a
 
 pub returns-clause-rooms : goal.returns-clause-rooms
 returns-clause-rooms c =
-    ap (λ (r : RoomPlaces). left r.places) (changing_over at_key (bucket_of c.args.at) (unlinked_at c.args.at) (λ x. refl) (unlink_change c.args.at) c.args.self.now c.loop-next.self-inside.places.items c.loop-next.self-inside.index (vec_len c.loop-next.self-inside.places) (vec_capacity c.loop-next.self-inside.places) c.loop-next.self-inside.count c.loop-next.self-inside.spare c.loop-next.next c.in_default.is c.loop-next.invariant)
+    ap (λ (r : RoomPlaces). present_entries r.places) (changing_over at_key (bucket_of c.args.at) (unlinked_at c.args.at) (λ x. refl) (unlink_change c.args.at) c.args.self.now c.loop-next.self-inside.places.items c.loop-next.self-inside.index (vec_len c.loop-next.self-inside.places) (vec_capacity c.loop-next.self-inside.places) c.loop-next.self-inside.count c.loop-next.self-inside.spare c.loop-next.next c.in_default.is c.loop-next.invariant)
     ∙ left_map (with_hold (unlinked_at c.args.at)) c.args.self.now.places

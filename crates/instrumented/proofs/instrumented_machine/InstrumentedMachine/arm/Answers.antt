@@ -1,10 +1,10 @@
 use Rattle.std.proofs.Common.{◌≡◌, ◌∙◌, ap, sym, subst}
 use Rattle.std.specs.Prelude.{IsTrue, ◌↔◌, cond}
-use Rattle.machine.specs.Effects.{after}
+use Rattle.machine.specs.Effects.{after_event}
 use Rattle.machine.specs.Events as events
 use Rattle.machine.specs.Events.{IsQuiet, MayArm}
 use Rattle.machine.specs.States.{Machine, with_core}
-use Rattle.instrument.specs.Laws.{IsPlaced}
+use Rattle.instrument.specs.Laws.{ArePlacingsDone}
 use Rattle.instrument.specs.Placements.{state_of}
 use Rattle.instrument.specs.Scenes.{Arms}
 use Rattle.instrument.specs.declared.number.State.TheVariants.{Placing}
@@ -35,7 +35,7 @@ armed-requires-clause-placed c i e =
     let same = placed_is _ a.instrument c.placed.result.now a.is c.placed.ensures.placed in
     let may = subst (MayArm (s.machine).core) (sym same) (c.arm.ensures.may.0 c.if-not-arm.false) in
     let one : a.instrument ≡ i = (let z = sym a.is ∙ e in cc) in
-    subst (IsPlaced (s.placer).placements) one (is_placed (both s.machine s.placer) c.self.invariant.reached n a may)
+    subst (ArePlacingsDone (s.placer).placements) one (is_placed (both s.machine s.placer) c.self.invariant.reached n a may)
 
 pub invariant_of-self-2 : goal.invariant_of-self-2
 invariant_of-self-2 c =
@@ -45,7 +45,7 @@ invariant_of-self-2 c =
     let a = placing_at (s.placer).placements n placing in
     let same = placed_is _ a.instrument c.placed.result.now a.is c.placed.ensures.placed in
     let may = subst (MayArm (s.machine).core) (sym same) (c.arm.ensures.may.0 c.if-not-arm.false) in
-    let is = c.arm.ensures.state ∙ (ap (λ b. cond b (with_core s.machine (after (s.machine).core (events.Arm c.placed.result.now))) s.machine) c.if-not-arm.false ∙ ap (λ x. with_core s.machine (after (s.machine).core (events.Arm x))) (sym same)) in
+    let is = c.arm.ensures.state ∙ (ap (λ b. cond b (with_core s.machine (after_event (s.machine).core (events.Arm c.placed.result.now))) s.machine) c.if-not-arm.false ∙ ap (λ x. with_core s.machine (after_event (s.machine).core (events.Arm x))) (sym same)) in
     (armed_kept s.machine c.arm.new.self s.placer c.armed.new.self n a c.self.invariant may is c.armed.ensures.placements c.armed.ensures.ready).sound
 
 pub returns-clause-linked : goal.returns-clause-linked
@@ -67,7 +67,7 @@ returns-clause-state c =
     let a = placing_at (s.placer).placements n placing in
     let same = placed_is _ a.instrument c.placed.result.now a.is c.placed.ensures.placed in
     let may = subst (MayArm (s.machine).core) (sym same) (c.arm.ensures.may.0 c.if-not-arm.false) in
-    let is = c.arm.ensures.state ∙ (ap (λ b. cond b (with_core s.machine (after (s.machine).core (events.Arm c.placed.result.now))) s.machine) c.if-not-arm.false ∙ ap (λ x. with_core s.machine (after (s.machine).core (events.Arm x))) (sym same)) in
+    let is = c.arm.ensures.state ∙ (ap (λ b. cond b (with_core s.machine (after_event (s.machine).core (events.Arm c.placed.result.now))) s.machine) c.if-not-arm.false ∙ ap (λ x. with_core s.machine (after_event (s.machine).core (events.Arm x))) (sym same)) in
     let kept = armed_kept s.machine c.arm.new.self s.placer c.armed.new.self n a c.self.invariant may is c.armed.ensures.placements c.armed.ensures.ready in
     returned (Arms n) s.machine c.arm.new.self s.placer c.armed.new.self c.args.self.now c.self.view_is kept c.armed.ensures.ready
 
@@ -75,7 +75,7 @@ pub returns-then-not-arm-clause-quiet : goal.returns-then-not-arm-clause-quiet
 returns-then-not-arm-clause-quiet c =
     let s = c.self.inside in
     let quiet = subst (λ (d : InstrumentedData). IsQuiet d.state.core) (sym c.self.view_is) c.requires.quiet in
-    let is = c.arm.ensures.state ∙ ap (λ b. cond b (with_core s.machine (after (s.machine).core (events.Arm c.placed.result.now))) s.machine) c.if-not-arm.true in
+    let is = c.arm.ensures.state ∙ ap (λ b. cond b (with_core s.machine (after_event (s.machine).core (events.Arm c.placed.result.now))) s.machine) c.if-not-arm.true in
     subst (λ (m : Machine). IsQuiet m.core) (sym is) quiet
 
 pub returns-clause-armed : goal.returns-clause-armed
@@ -90,5 +90,5 @@ pub returns-clause-quiet : goal.returns-clause-quiet
 returns-clause-quiet c =
     let s = c.self.inside in
     let quiet = subst (λ (d : InstrumentedData). IsQuiet d.state.core) (sym c.self.view_is) c.requires.quiet in
-    let is = c.arm.ensures.state ∙ ap (λ b. cond b (with_core s.machine (after (s.machine).core (events.Arm c.placed.result.now))) s.machine) c.if-not-arm.false in
+    let is = c.arm.ensures.state ∙ ap (λ b. cond b (with_core s.machine (after_event (s.machine).core (events.Arm c.placed.result.now))) s.machine) c.if-not-arm.false in
     subst (λ (m : Machine). IsQuiet m.core) (sym is) (quiet_armed c.placed.result.now (s.machine).core quiet)

@@ -1,7 +1,7 @@
 use Rattle.std.proofs.Common.{◌∙◌, ap}
 use Rattle.machine.specs.States.{quantum_turns}
 use Rattle.instrumented.specs.Data.{InstrumentedData}
-use Rattle.instrumented.specs.Instrumented.{Instrumented, taken}
+use Rattle.instrumented.specs.Instrumented.{Instrumented, after_turns}
 use Rattle.instrumented.proofs.Kept.{turns_kept}
 use Rattle.instrumented.proofs.Turns.{quantum_all, quantum_legal}
 use Rattle.instrumented.specs.Data.{state_of}
@@ -19,4 +19,4 @@ returns-clause-taken c =
     let turns = quantum_turns c.args.most c.args.hart (s.machine).core in
     let kept = turns_kept turns s.machine c.take_turns.new.self s.placer c.self.invariant (quantum_all c.args.most c.args.hart (s.machine).core) (quantum_legal c.args.most c.args.hart (state_of s.machine s.placer)) c.take_turns.ensures.taken in
     ap (λ (x : Instrumented). record { state = x; ready = (s.placer).ready }) kept.0
-    ∙ ap (λ (d : InstrumentedData). record d { state = taken (quantum_turns c.args.most c.args.hart d.state.core) d.state }) c.self.view_is
+    ∙ ap (λ (d : InstrumentedData). record d { state = after_turns (quantum_turns c.args.most c.args.hart d.state.core) d.state }) c.self.view_is

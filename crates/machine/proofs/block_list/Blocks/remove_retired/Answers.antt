@@ -5,11 +5,11 @@ use Rattle.rv_word.specs.Plain.{Words}
 use Rattle.code_store.specs.Owners.{owners_without}
 use Rattle.code_store.specs.Stores.{StoredCode}
 use Rattle.bucket_chains.specs.Entries.{Entries, IsFirst, bucket_of}
-use Rattle.bucket_chains.specs.Left.{left}
+use Rattle.bucket_chains.specs.Left.{present_entries}
 use Rattle.bucket_chains.proofs.Nexts.{from_next, next_left, rest_left}
 use Rattle.machine.specs.Cores.{In}
 use Rattle.machine.specs.Effects.{is_kept}
-use Rattle.machine.specs.Links.{IsWithin, owners_left}
+use Rattle.machine.specs.Links.{IsInText, owners_left}
 use Rattle.machine.specs.Views.{BlockList, row_of}
 use Rattle.machine.specs.declared.block_list.Blocks.TheInside.{Inside}
 use Rattle.machine.proofs.Lists.{map_in}
@@ -38,10 +38,10 @@ index-requires c = omega (arith, walk_within c.args.point (take_retired c.args.p
 pub drop_block-requires : goal.drop_block-requires
 drop_block-requires c =
     let x = c.in-Some-index.row in
-    subst (λ (t : Words). IsWithin t (row_of x)) (sym c.loop-next.invariant.program)
+    subst (λ (t : Words). IsInText t (row_of x)) (sym c.loop-next.invariant.program)
     (c.requires (row_of x)
     (subst (λ (b : BlockList). In (row_of x) b.rows) c.self.view_is
-    (map_in row_of (left c.self.inside.rows.items) x (walk_old c.args.point (take_retired c.args.point) c.self.inside c.loop-next.self-inside c.loop-next.next c.in-Some.place c.in-Some.is c.loop-next.invariant.walks c.index.result.now c.index.ensures x c.in-Some-index.is))))
+    (map_in row_of (present_entries c.self.inside.rows.items) x (walk_old c.args.point (take_retired c.args.point) c.self.inside c.loop-next.self-inside c.loop-next.next c.in-Some.place c.in-Some.is c.loop-next.invariant.walks c.index.result.now c.index.ensures x c.in-Some-index.is))))
 
 pub index_mut-requires : goal.index_mut-requires
 index_mut-requires c = omega (arith, walk_within c.args.point (take_retired c.args.point) c.self.inside c.loop-next.self-inside c.loop-next.next c.in-Some.place c.in-Some.is c.loop-next.invariant.walks)
@@ -117,7 +117,7 @@ returns-clause-rows c =
     let walks = c.loop-next.invariant.walks in
     ap (λ rows. record { rows = rows; room = c.loop-next.self-inside.room })
     (all_taken c.args.point old c.loop-next.self-inside.rows.items (walk_over c.args.point (take_retired c.args.point) c.self.inside c.loop-next.self-inside c.loop-next.next c.in_default.is walks))
-    ∙ (ap (λ n. record { rows = filter (is_kept c.args.point) (map row_of (left old)); room = n }) walks.fits.room
+    ∙ (ap (λ n. record { rows = filter (is_kept c.args.point) (map row_of (present_entries old)); room = n }) walks.fits.room
     ∙ ap (λ (b : BlockList). record b { rows = filter (is_kept c.args.point) b.rows }) c.self.view_is)
 
 pub returns-clause-store : goal.returns-clause-store

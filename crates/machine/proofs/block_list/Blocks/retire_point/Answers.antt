@@ -2,7 +2,7 @@ use Rattle.std.proofs.Common.{◌≡◌, ◌∙◌, None, length, refl, ap, sym,
 use Rattle.std.specs.Prelude.{map}
 use Rattle.std.specs.Option.{option_map}
 use Rattle.bucket_chains.specs.Entries.{bucket_at, bucket_of}
-use Rattle.bucket_chains.specs.Left.{left}
+use Rattle.bucket_chains.specs.Left.{present_entries}
 use Rattle.machine.specs.Effects.{with_status}
 use Rattle.machine.specs.Views.{BlockList, row_of, status_of}
 use Rattle.machine.specs.declared.block_list.Blocks.TheInside.{Inside}
@@ -72,5 +72,5 @@ returns c =
     let old = c.self.inside.rows.items in
     let all = all_put (links_at c.args.point) statuses.Retired old c.loop-next.self-inside.rows.items (walk_over c.args.point (option_map (put_if (links_at c.args.point) statuses.Retired)) c.self.inside c.loop-next.self-inside c.loop-next.next c.in_default.is c.loop-next.invariant) in
     ap (λ rows. record { rows = rows; room = c.loop-next.self-inside.room }) all
-    ∙ (ap (λ n. record { rows = map (with_status (status_if (links_at c.args.point) (status_of statuses.Retired))) (map row_of (left old)); room = n }) c.loop-next.invariant.fits.room
+    ∙ (ap (λ n. record { rows = map (with_status (status_if (links_at c.args.point) (status_of statuses.Retired))) (map row_of (present_entries old)); room = n }) c.loop-next.invariant.fits.room
     ∙ (ap (λ (b : BlockList). record b { rows = map (with_status (status_if (links_at c.args.point) (status_of statuses.Retired))) b.rows }) c.self.view_is))

@@ -5,7 +5,7 @@ use Rattle.rv_exec.specs.Shared.{prog_in}
 use Rattle.machine.specs.Events.{MayArm}
 use Rattle.machine.specs.Effects.{armed_in}
 use Rattle.machine.specs.States.{Machine}
-use Rattle.machine.specs.Views.{IsSound}
+use Rattle.machine.specs.Views.{AreMachineParts}
 use Rattle.machine.proofs.Taking.{armed_sound}
 use Rattle.machine.proofs.machine.Machine.arm.Goals as goal
 
@@ -18,4 +18,4 @@ invariant_of-self c =
     let may : MayArm _ i = subst (λ (m : Machine). MayArm m.core i) (sym c.self.view_is) (c.may_arm.ensures.0 c.if-not-may_arm.false) in
     let new : c.arm_harts.new.harts ≡ map (armed_in s.shared.mem i) vec.items = c.arm_harts.ensures ∙ ap (map (armed_in s.shared.mem i)) c.deref_mut.ensures.value in
     let len : length c.arm_harts.new.harts ≡ vec.len = ap length new ∙ (length-map vec.items (armed_in s.shared.mem i) ∙ sym vec.ok.0) in
-    subst (λ harts. IsSound harts p s.store s.blocks.rows s.budget) (sym (with_items_is vec c.arm_harts.new.harts len ∙ new)) (armed_sound vec.items p s.store s.blocks.rows s.budget i c.self.invariant may)
+    subst (λ harts. AreMachineParts harts p s.store s.blocks.rows s.budget) (sym (with_items_is vec c.arm_harts.new.harts len ∙ new)) (armed_sound vec.items p s.store s.blocks.rows s.budget i c.self.invariant may)

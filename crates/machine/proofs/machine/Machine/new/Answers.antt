@@ -7,7 +7,7 @@ use Rattle.tramp_spec.specs.Harts.{Hart}
 use Rattle.code_store.specs.Stores.{StoredCode, first_code}
 use Rattle.machine.specs.Cores.{first_hart}
 use Rattle.machine.specs.Laws.{IsProgram}
-use Rattle.machine.specs.Views.{BlockList, IsSound}
+use Rattle.machine.specs.Views.{BlockList, AreMachineParts}
 use Rattle.machine.proofs.Firsts.{first_sound}
 use Rattle.machine.proofs.machine.Machine.new.Goals as goal
 
@@ -20,7 +20,7 @@ invariant_of-result c =
     let program : IsProgram image = record { image = c.requires.image; narrow = narrow; unscratched = c.requires.unscratched } in
     let first = first_sound image n c.args.budget program c.requires.harts c.ranges.budget.fits in
     let prog : prog_of c.in_ok-new.field-0 c.in_ok-new-2.field-0 c.in_ok-new-3.field-0 ≡ (start image n).prog = rw (c.in_ok-new.ensures, c.in_ok-new-2.ensures, c.in_ok-new-3.ensures) refl in
-    subst (λ (hs : List Hart). IsSound hs (prog_of c.in_ok-new.field-0 c.in_ok-new-2.field-0 c.in_ok-new-3.field-0) store c.in_ok-new-5.field-0.rows c.args.budget) (sym c.in_ok-first_harts.ensures.first)
-    (subst (λ (p : Prog). IsSound (map first_hart (harts_from n 0 image n)) p store c.in_ok-new-5.field-0.rows c.args.budget) (sym prog)
-    (subst (λ (s : StoredCode). IsSound (map first_hart (harts_from n 0 image n)) (start image n).prog s c.in_ok-new-5.field-0.rows c.args.budget) (sym c.in_ok-new-4.ensures.first)
-    (subst (λ (b : BlockList). IsSound (map first_hart (harts_from n 0 image n)) (start image n).prog (first_code image) b.rows c.args.budget) (sym c.in_ok-new-5.ensures) first)))
+    subst (λ (hs : List Hart). AreMachineParts hs (prog_of c.in_ok-new.field-0 c.in_ok-new-2.field-0 c.in_ok-new-3.field-0) store c.in_ok-new-5.field-0.rows c.args.budget) (sym c.in_ok-first_harts.ensures.first)
+    (subst (λ (p : Prog). AreMachineParts (map first_hart (harts_from n 0 image n)) p store c.in_ok-new-5.field-0.rows c.args.budget) (sym prog)
+    (subst (λ (s : StoredCode). AreMachineParts (map first_hart (harts_from n 0 image n)) (start image n).prog s c.in_ok-new-5.field-0.rows c.args.budget) (sym c.in_ok-new-4.ensures.first)
+    (subst (λ (b : BlockList). AreMachineParts (map first_hart (harts_from n 0 image n)) (start image n).prog (first_code image) b.rows c.args.budget) (sym c.in_ok-new-5.ensures) first)))

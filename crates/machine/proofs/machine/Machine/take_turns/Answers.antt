@@ -7,7 +7,7 @@ use Rattle.machine.specs.Performing.{solo_of}
 use Rattle.machine.specs.Quanta.{KeepsBudget}
 use Rattle.machine.specs.Replays.{owns, replay}
 use Rattle.machine.specs.States.{Machine, quantum_turns, with_core}
-use Rattle.machine.specs.Views.{IsSound, core_of}
+use Rattle.machine.specs.Views.{AreMachineParts, core_of}
 use Rattle.machine.proofs.Alone.{all_placed, took}
 use Rattle.machine.proofs.Lists.{length_slice_set}
 use Rattle.machine.proofs.Quanta.{keeps_budget}
@@ -34,7 +34,7 @@ invariant_of-self c =
     let q = prog_in c.take_turns-turns.new.shared in
     let t = took s.store s.blocks.rows s.budget c.self.invariant.owners h s.harts.items (solo_of x (prog_in s.shared)) c.self.invariant.reached ex c.args.most c.take_turns-turns.result (solo_of z q) c.take_turns-turns.ensures.taken in
     let same = length_slice_set s.harts.items h z in
-    subst (λ i. IsSound (set s.harts.items i z) q s.store s.blocks.rows s.budget) (sym c.get.ensures.number)
+    subst (λ i. AreMachineParts (set s.harts.items i z) q s.store s.blocks.rows s.budget) (sym c.get.ensures.number)
     (record {
       reached = t.reached;
       owners = c.self.invariant.owners;

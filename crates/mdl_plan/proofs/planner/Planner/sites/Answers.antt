@@ -4,7 +4,7 @@ use Rattle.std.proofs.lemmas.List.{get_or-map, length-map}
 use Rattle.pn_types.specs.declared.code.Point.{Point}
 use Rattle.pn_types.specs.declared.plan.Site.{Site}
 use Rattle.mdl_plan.specs.Plans.{is_crowded}
-use Rattle.mdl_plan.specs.ChosenPieces.{Refuses, sites_with}
+use Rattle.mdl_plan.specs.ChosenPieces.{PlanRefuses, sites_with}
 use Rattle.mdl_plan.proofs.SiteList.{sites_more, sites_around, few_both, refuses_all}
 use Rattle.mdl_plan.proofs.planner.Planner.sites.Goals as goal
 
@@ -25,8 +25,8 @@ returns-in_err-add_site-clause-refused c =
     let behind = sites_with s.terms s.pieces.items s.chosen (drop (i + 1) points) in
     let fault = c.in_err-add_site.field-0.0 in
     let e : c.from_residual.result ≡ Err fault = search rules in
-    subst (λ r. IfErr r (λ f. Refuses f (sites_with s.terms s.pieces.items s.chosen points))) (sym e)
-    (subst (Refuses fault) (sites_around s.terms s.pieces.items s.chosen points i p lt is)
+    subst (λ r. IfErr r (λ f. PlanRefuses f (sites_with s.terms s.pieces.items s.chosen points))) (sym e)
+    (subst (PlanRefuses fault) (sites_around s.terms s.pieces.items s.chosen points i p lt is)
     (refuses_all fault before here behind c.loop-point.invariant.few c.in_err-add_site.ensures.refused))
 
 pub loop-point-preserved : goal.loop-point-preserved

@@ -7,7 +7,7 @@ use Rattle.machine.specs.Cores.{In}
 use Rattle.instrument.specs.Needs.{need_of}
 use Rattle.w3_search.specs.Steps.{SearchData}
 use Rattle.session_spec.specs.Opening.{with_all}
-use Rattle.session_spec.specs.States.{Kept}
+use Rattle.session_spec.specs.States.{SessionState}
 use Rattle.session_spec.specs.Tests.{in_force, with_nodes, with_tests}
 use Rattle.session_spec.specs.Rosters.{AreBelow}
 use Rattle.session_kits.specs.declared.kit.Kit.{Kit}
@@ -95,7 +95,7 @@ returns-clause-kept c ws =
     let kept : k ≡ with_all i wishes (kept_of ws t) = c.consider_all.ensures.kept ws ∙ ap (λ (x : Table). with_all i wishes (kept_of ws x)) c.in_ok-reserve.ensures.same in
     let least : force ≡ cond (list_all (λ (w : CheckedWish). w.show) wishes) (in_force i t.machine.state.placer (shown_in t.kits)) 0 =
     c.least_force-force.ensures.least ∙ ap (λ n. cond (list_all (λ (w : CheckedWish). w.show) wishes) n 0) (force_is i t.machine.state.placer t.kits c.requires.costs) in
-    let below = subst (λ (x : Kept). AreBelow x.machine.placer.count x.shown) kept (c.consider_all.ensures.live).below in
+    let below = subst (λ (x : SessionState). AreBelow x.machine.placer.count x.shown) kept (c.consider_all.ensures.live).below in
     let has = subst (HasForce i force) (sym kept) (least_force i wishes (kept_of ws t) force least (c.requires.live).below below) in
     let out = left_out i force t.search.nodes queue ms k c.in_ok-contenders.ensures.queue (behind_first i force t.search.nodes k has (ap (λ (v : SearchData). v.nodes) search)) in
     c.take_nodes.ensures.kept ws

@@ -3,7 +3,7 @@ use Rattle.mdl_plan.specs.declared.fault.PlanFault.{PlanFault}
 use Rattle.instrumented.specs.Instrumented.{Instrumented}
 use Rattle.session_kits.specs.Kits.{AreLive}
 use Rattle.session_kits.specs.declared.kit.Kit.{Kit}
-use Rattle.session.specs.Outcomes.{IsFailed, IsStep}
+use Rattle.session.specs.Outcomes.{IsFailed, IsAdmissionStep}
 use Rattle.session.specs.Tables.{IsNew, Table}
 use Rattle.session.specs.contracts.desk.Desk.{the_view}
 use Rattle.session.specs.declared.failure.Failure.TheVariants.{Refused}
@@ -57,9 +57,9 @@ returns-in-Err-clause-step c =
     let e = c.in-Err.ensures in
     let same : c.admit.new.self.state ≡ s.machine.state = e.state ∙ refused_same s.machine.state plan c.args.limit c.in-Err.refused e.refused in
     let live : AreLive s.machine.state.placer s.kits.all.items s.kits.live.items = subst (λ (x : Table). AreLive x.machine.state.placer x.kits x.live) (sym c.self.view_is) c.requires.live in
-    let step : (t : Table) → t ≡ record (the_view s) { machine = c.admit.new.self } → IsStep i plan c.args.self.now t =
+    let step : (t : Table) → t ≡ record (the_view s) { machine = c.admit.new.self } → IsAdmissionStep i plan c.args.self.now t =
     λ t is.
-    subst (IsStep i plan c.args.self.now) (sym is)
+    subst (IsAdmissionStep i plan c.args.self.now) (sym is)
     (step_same i plan (the_view s) c.args.self.now (record (the_view s) { machine = c.admit.new.self }) c.self.view_is (inr e.ready)
     (subst (λ (m : Instrumented). AreLive m.placer s.kits.all.items s.kits.live.items) (sym same) live) refl e.core) in
     elim c.match-candidate-3.branch [

@@ -4,7 +4,7 @@ use Rattle.std.proofs.lemmas.Option.{slice_get-get_or}
 use Rattle.instrument.proofs.Going.{get_in}
 use Rattle.machine.specs.Cores.{In}
 use Rattle.w3_search.specs.declared.node.Node.{Node}
-use Rattle.session.specs.Contenders.{IsContender, IsNodeOf, MustWait, queue_of}
+use Rattle.session.specs.Contenders.{IsContender, IsNodeWithHarts, MustWait, queue_of}
 use Rattle.session.specs.Tables.{Table}
 use Rattle.session.proofs.Contending.{next_left, next_taken, queued}
 use Rattle.session.proofs.desk.Desk.prepare_nodes.Goals as goal
@@ -18,7 +18,7 @@ prepare_node-requires-clause-node c =
     let n = slice_index_or queue k 0 in
     let at : In n queue = get_in queue k n (slice_get-get_or queue k 0 c.loop-number-test.true) in
     let rules = ap (λ (t : Table). t.search.rules) c.self.view_is ∙ c.requires.rules in
-    subst (λ (ns : List Node). IsNodeOf i ns n) (sym c.nodes-nodes.ensures.nodes)
+    subst (λ (ns : List Node). IsNodeWithHarts i ns n) (sym c.nodes-nodes.ensures.nodes)
     (queued i c.self.inside.observed v c.requires.given c.nodes-nodes.ensures.history rules n (subst (In n) c.queue-number-items.ensures at))
 
 pub loop-number-preserved-in_default : goal.loop-number-preserved-in_default

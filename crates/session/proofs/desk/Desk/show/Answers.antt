@@ -5,21 +5,21 @@ use Rattle.pn_types.specs.declared.focus.Focus.{Focus}
 use Rattle.pn_types.specs.declared.plan.Plan.{Plan}
 use Rattle.session_spec.specs.Admission.{with_answer, with_plan, with_refused}
 use Rattle.session_spec.specs.Inputs.{Inputs, planned}
-use Rattle.session_spec.specs.States.{Kept}
+use Rattle.session_spec.specs.States.{SessionState}
 use Rattle.session.specs.declared.candidate.Candidate.{Candidate}
 use Rattle.session.specs.declared.failure.Failure.{Failure}
 use Rattle.session.specs.declared.failure.Failure.TheVariants.{NoPlan, Refused}
-use Rattle.session.specs.Candidates.{IsCandidate, IsPairOf, IsPlanned}
+use Rattle.session.specs.Candidates.{IsCandidate, IsPairOf, IsPlanOrFault}
 use Rattle.session.specs.Outcomes.{IsFailure, pick_cause_of}
 use Rattle.session.specs.Tables.{kept_of}
 use Rattle.session.proofs.Waiting.{kept_same}
 use Rattle.session.proofs.desk.Desk.show.Goals as goal
 
-module _ (i : Inputs) (w : CheckedWish) (plan : Plan) (c : Candidate) (pair : IsPairOf None w.metric w.focus c) (good : IsCandidate i plan c) (k : Kept) where
-  planned_by : (o : Option PlanFault) → c.fault ≡ o → IsPlanned i w.metric w.focus o plan
+module _ (i : Inputs) (w : CheckedWish) (plan : Plan) (c : Candidate) (pair : IsPairOf None w.metric w.focus c) (good : IsCandidate i plan c) (k : SessionState) where
+  planned_by : (o : Option PlanFault) → c.fault ≡ o → IsPlanOrFault i w.metric w.focus o plan
   planned_by o e =
-      subst (λ (f : Focus). IsPlanned i w.metric f o plan) pair.focus_is
-      (subst (λ (m : ℕ). IsPlanned i m c.focus o plan) pair.metric_is (subst (λ (y : Option PlanFault). IsPlanned i c.metric c.focus y plan) e good.planned))
+      subst (λ (f : Focus). IsPlanOrFault i w.metric f o plan) pair.focus_is
+      (subst (λ (m : ℕ). IsPlanOrFault i m c.focus o plan) pair.metric_is (subst (λ (y : Option PlanFault). IsPlanOrFault i c.metric c.focus y plan) e good.planned))
 
   -- a wish whose pair gets no instrument is refused
   wish_failed : (failure : Failure) → IsFailure k.machine.placer plan c.fault None failure → with_plan (planned i w.metric w.focus) w k ≡ with_refused (pick_cause_of failure) w k

@@ -16,7 +16,7 @@ use Rattle.session_spec.specs.Tests.{barred, in_force, must_wait, with_node}
 use Rattle.session_kits.proofs.Dropped.{shown_in}
 use Rattle.session.specs.declared.candidate.Candidate.{Candidate}
 use Rattle.session.specs.Candidates.{new_kit}
-use Rattle.session.specs.Contenders.{IsContender, force_in, number_of, number_or_none}
+use Rattle.session.specs.Contenders.{IsContender, force_in, candidate_number, number_or_none}
 use Rattle.session.specs.Outcomes.{IsFailed, IsInstrumented, bar_cause_of}
 use Rattle.session.specs.Tables.{Table, kept_of}
 use Rattle.session.proofs.Forces.{force_is, force_low, force_more, low_costs}
@@ -88,7 +88,7 @@ returns-in-Ok-clause-kept c ws =
     let search : v ≡ with_state x.number Active t.search =
     c.admitted.ensures ∙ (ap (λ n. with_state n Active c.self.inside.search) (ap number_or_none (sym c.in-Some.is ∙ (x.pair).node_is))
     ∙ ap (λ (s : SearchData). with_state x.number Active s) (ap (λ (y : Table). y.search) c.self.view_is ∙ ap (λ (y : Table). y.search) c.in-Ok.ensures.same)) in
-    subst (λ (y : Table). kept_of ws (record y { search = v }) ≡ with_node i (number_of c.args.candidate) k) (sym c.self.view_is)
+    subst (λ (y : Table). kept_of ws (record y { search = v }) ≡ with_node i (candidate_number c.args.candidate) k) (sym c.self.view_is)
     (subst (λ n. kept_of ws (record new { search = v }) ≡ with_node i n k) (sym (ap number_or_none (x.pair).node_is))
     (node_tested i t plan c.args.candidate x ws (sym waits ∙ c.if-not-waits.false) needs new c.in-Ok.field-0 one c.in-Ok.ensures.same v search))
 
@@ -124,8 +124,8 @@ returns-in-Err-clause-kept c ws =
     ] in
     let failed = subst (λ n. IsFailed plan c.args.candidate.fault (Some n) t new c.in-Err.failure) limit c.in-Err.ensures.err in
     let same = kept_same ws t new c.in-Err.ensures.same failed.machine failed.kits in
-    let node : c.in-Some.node ≡ number_of c.args.candidate = ap number_or_none (sym c.in-Some.is) in
-    let numbered : number_of c.args.candidate ≡ x.number = ap number_or_none (x.pair).node_is in
+    let node : c.in-Some.node ≡ candidate_number c.args.candidate = ap number_or_none (sym c.in-Some.is) in
+    let numbered : candidate_number c.args.candidate ≡ x.number = ap number_or_none (x.pair).node_is in
     c.bar.ensures.kept ws
     ∙ (ap (λ o. barred o c.in-Some.node (kept_of ws new)) c.bar_cause.ensures
     ∙ (ap (λ y. barred (bar_cause_of c.in-Err.failure) c.in-Some.node y) same

@@ -1,8 +1,8 @@
 use Rattle.std.proofs.Common.{◌≡◌, ◌∙◌, ap, arith, subst}
 use Rattle.std.specs.Prelude.{drop, false, true}
 use Rattle.instrumented.specs.Instrumented.{Instrumented}
-use Rattle.session_spec.specs.States.{Kept}
-use Rattle.session.specs.Kept.{IsKept}
+use Rattle.session_spec.specs.States.{SessionState}
+use Rattle.session.specs.Kept.{IsTableAfter}
 use Rattle.session.specs.Sessions.{SessionData, session_at}
 use Rattle.session.proofs.Halting.{can_sample}
 use Rattle.session.proofs.Quanta.{end_kept}
@@ -36,7 +36,7 @@ invariant_of-self c =
     let s = c.self.inside in
     let later = drop s.looked s.wishes.items in
     let going : s.closed ≡ false = ap (λ (x : SessionData). x.closed) c.self.view_is ∙ c.requires in
-    let kept : IsKept s.inputs s.quanta.items false later s.desk = subst (λ b. IsKept s.inputs s.quanta.items b later s.desk) going c.self.invariant.0 in
+    let kept : IsTableAfter s.inputs s.quanta.items false later s.desk = subst (λ b. IsTableAfter s.inputs s.quanta.items b later s.desk) going c.self.invariant.0 in
     let e = c.end.ensures in
     (end_kept s.inputs s.quanta.items later s.desk c.end.new.self kept e.table e.quiet e.harts e.later e.live, c.self.invariant.1, c.self.invariant.2)
 
@@ -46,8 +46,8 @@ returns c =
     let d = c.args.self.now in
     let later = drop s.looked s.wishes.items in
     let going : s.closed ≡ false = ap (λ (x : SessionData). x.closed) c.self.view_is ∙ c.requires in
-    let kept : IsKept s.inputs s.quanta.items false later s.desk = subst (λ b. IsKept s.inputs s.quanta.items b later s.desk) going c.self.invariant.0 in
+    let kept : IsTableAfter s.inputs s.quanta.items false later s.desk = subst (λ b. IsTableAfter s.inputs s.quanta.items b later s.desk) going c.self.invariant.0 in
     let e = c.end.ensures in
     let over = end_kept s.inputs s.quanta.items later s.desk c.end.new.self kept e.table e.quiet e.harts e.later e.live in
-    ap (λ (m : Instrumented). record { inputs = s.inputs; machine = m; quanta = s.quanta.items; closed = true }) (ap (λ (k : Kept). k.machine) over.state.kept)
+    ap (λ (m : Instrumented). record { inputs = s.inputs; machine = m; quanta = s.quanta.items; closed = true }) (ap (λ (k : SessionState). k.machine) over.state.kept)
     ∙ ap (λ (x : SessionData). session_at x.inputs x.quanta true) c.self.view_is

@@ -2,11 +2,11 @@ use Rattle.std.proofs.Common.{◌≡◌, ap, subst}
 use Rattle.std.specs.Prelude.{false, drop, true}
 use Rattle.session_spec.specs.Run.{IsRun}
 use Rattle.session_spec.specs.Work.{AreAllowed}
-use Rattle.session_spec.specs.States.{Kept}
+use Rattle.session_spec.specs.States.{SessionState}
 use Rattle.session_spec.specs.Told.{AreEnded, AreJudged}
 use Rattle.session_spec.proofs.Runs.{is_run}
 use Rattle.session_spec.specs.Bins.{AreRecorded}
-use Rattle.session_spec.specs.Costs.{AreWithin, IsWithin}
+use Rattle.session_spec.specs.Costs.{AreWithin, IsWithinLimit}
 use Rattle.session_spec.specs.Feed.{IsFeed}
 use Rattle.session_spec.specs.Printed.{AreForOpening, AreWholeRuns}
 use Rattle.session_spec.specs.LastReadings.{AreReadNext}
@@ -24,7 +24,7 @@ pub returns-clause-allowed : goal.returns-clause-allowed
 returns-clause-allowed c = subst (λ (d : SessionData). AreAllowed d.inputs d.quanta) c.self.view_is c.self.invariant.0.allowed
 
 pub returns-clause-machine : goal.returns-clause-machine
-returns-clause-machine c = subst (λ (x : SessionData). x.machine ≡ (state_of x).kept.machine) c.self.view_is (ap (λ (k : Kept). k.machine) c.self.invariant.0.state.kept)
+returns-clause-machine c = subst (λ (x : SessionData). x.machine ≡ (state_of x).kept.machine) c.self.view_is (ap (λ (k : SessionState). k.machine) c.self.invariant.0.state.kept)
 
 pub returns-clause-run : goal.returns-clause-run
 returns-clause-run c =
@@ -36,7 +36,7 @@ pub returns-clause-history : goal.returns-clause-history
 returns-clause-history c =
     let s = c.self.inside in
     let held : IsHistory s.desk.search = subst (λ (x : Inside). IsHistory x.desk.search) c.self-inside.view_is c.nodes-nodes.ensures.history in
-    subst (λ (x : SessionData). IsHistory (state_of x).kept.search) c.self.view_is (subst (λ (k : Kept). IsHistory k.search) c.self.invariant.0.state.kept held)
+    subst (λ (x : SessionData). IsHistory (state_of x).kept.search) c.self.view_is (subst (λ (k : SessionState). IsHistory k.search) c.self.invariant.0.state.kept held)
 
 -- ---- what was recorded
 
@@ -90,7 +90,7 @@ returns-clause-told c =
 pub returns-clause-cost : goal.returns-clause-cost
 returns-clause-cost c =
     let s = c.self.inside in
-    subst (λ (x : SessionData). IsWithin x.inputs (state_of x).kept) c.self.view_is (all_within s.inputs s.quanta.items s.closed)
+    subst (λ (x : SessionData). IsWithinLimit x.inputs (state_of x).kept) c.self.view_is (all_within s.inputs s.quanta.items s.closed)
 
 pub returns-clause-moments : goal.returns-clause-moments
 returns-clause-moments c =

@@ -8,11 +8,11 @@ use Rattle.machine.specs.Quanta.{KeepsBudget}
 use Rattle.machine.specs.Replays.{owns}
 use Rattle.machine.specs.States.{quantum_turns}
 use Rattle.machine.specs.Turns.{is_runnable}
-use Rattle.session.specs.Kept.{IsKept}
+use Rattle.session.specs.Kept.{IsTableAfter}
 use Rattle.session.specs.Sessions.{SessionData, state_at, state_of}
-use Rattle.session_spec.specs.Work.{work}
-use Rattle.session.specs.Tables.{IsAdmission, Table, table_tended}
-use Rattle.session_spec.specs.States.{Kept}
+use Rattle.session_spec.specs.Work.{after_quanta}
+use Rattle.session.specs.Tables.{IsAfterAdmission, Table, table_tended}
+use Rattle.session_spec.specs.States.{SessionState}
 use Rattle.session.proofs.Halting.{allowed_now, budget_kept, can_sample_now, costs, drop_sum, not_halted, program_kept}
 use Rattle.session.proofs.Quanta.{drop_many, quantum_kept}
 use Rattle.session.proofs.session.Session.quantum.Goals as goal
@@ -74,10 +74,10 @@ tend-owns-requires-clause-sampled c =
     let few : length s.quanta.items < MAX_QUANTA = subst (λ (x : SessionData). length x.quanta < MAX_QUANTA) (sym c.self.view_is) (c.runnable.ensures.few c.if-not-runnable.false) in
     let going : s.closed ≡ false = ap (λ (x : SessionData). x.closed) c.self.view_is ∙ c.requires.going in
     can_sample_now s.inputs s.quanta.items s.closed (drop s.looked s.wishes.items) s.desk c.admit_from.new.desk c.in_ok-looked.looked c.self.invariant.0 few
-    (subst (λ (l : List CheckedWish). IsAdmission s.inputs (drop s.looked l) s.desk c.admit_from.new.desk c.in_ok-looked.looked) c.deref.ensures.value c.in_ok-looked.ensures.ok) going
+    (subst (λ (l : List CheckedWish). IsAfterAdmission s.inputs (drop s.looked l) s.desk c.admit_from.new.desk c.in_ok-looked.looked) c.deref.ensures.value c.in_ok-looked.ensures.ok) going
 
 -- what is kept after it
-kept_now : (c : goal.After-put_quantum) → IsKept c.self.inside.inputs (c.put_quantum.new.list.items) false (drop (c.self.inside.looked + c.in_ok-looked.looked) c.self.inside.wishes.items) c.tend-owns.new.self
+kept_now : (c : goal.After-put_quantum) → IsTableAfter c.self.inside.inputs (c.put_quantum.new.list.items) false (drop (c.self.inside.looked + c.in_ok-looked.looked) c.self.inside.wishes.items) c.tend-owns.new.self
 kept_now c =
     let s = c.self.inside in
     let i = s.inputs in
@@ -86,8 +86,8 @@ kept_now c =
     let q : Quantum = record { worker = c.args.worker; hart = c.args.hart; turns = c.args.turns; owns = c.tend-owns.result } in
     let few : length s.quanta.items < MAX_QUANTA = subst (λ (x : SessionData). length x.quanta < MAX_QUANTA) (sym c.self.view_is) (c.runnable.ensures.few c.if-not-runnable.false) in
     let going : s.closed ≡ false = ap (λ (x : SessionData). x.closed) c.self.view_is ∙ c.requires.going in
-    let k : IsKept i s.quanta.items false later s.desk = subst (λ b. IsKept i s.quanta.items b later s.desk) going c.self.invariant.0 in
-    let admitted : IsAdmission i later s.desk c.admit_from.new.desk n = subst (λ (l : List CheckedWish). IsAdmission i (drop s.looked l) s.desk c.admit_from.new.desk n) c.deref.ensures.value c.in_ok-looked.ensures.ok in
+    let k : IsTableAfter i s.quanta.items false later s.desk = subst (λ b. IsTableAfter i s.quanta.items b later s.desk) going c.self.invariant.0 in
+    let admitted : IsAfterAdmission i later s.desk c.admit_from.new.desk n = subst (λ (l : List CheckedWish). IsAfterAdmission i (drop s.looked l) s.desk c.admit_from.new.desk n) c.deref.ensures.value c.in_ok-looked.ensures.ok in
     let e = c.tend-owns.ensures in
     let table : c.tend-owns.new.self ≡ table_tended i.settings.width c.args.hart c.args.turns c.admit_from.new.desk =
     e.table ∙ ap₂ (λ (w h : ℕ). table_tended w h c.args.turns c.admit_from.new.desk) c.width-width.ensures c.numbered.ensures in
@@ -96,25 +96,25 @@ kept_now c =
     let hart : c.args.hart < i.settings.harts = subst (λ (x : SessionData). c.args.hart < x.inputs.settings.harts) (sym c.self.view_is) c.requires.hart in
     let going_on : is_runnable (state_at i s.quanta.items s.closed).kept.machine.core c.args.hart ≡ true =
     subst (λ (x : SessionData). is_runnable (state_of x).kept.machine.core c.args.hart ≡ true) (sym c.self.view_is) (c.runnable.ensures.open c.if-not-runnable.false) in
-    let runs : is_runnable (work i s.quanta.items).kept.machine.core c.args.hart ≡ true = subst (λ b. is_runnable (state_at i s.quanta.items b).kept.machine.core c.args.hart ≡ true) going going_on in
+    let runs : is_runnable (after_quanta i s.quanta.items).kept.machine.core c.args.hart ≡ true = subst (λ b. is_runnable (state_at i s.quanta.items b).kept.machine.core c.args.hart ≡ true) going going_on in
     let allowed = allowed_now i s.quanta.items false later s.desk c.admit_from.new.desk n k few admitted q c.requires.worker hart c.requires.turns.0 c.requires.turns.1 runs own in
     let kept = quantum_kept i s.quanta.items later s.desk c.admit_from.new.desk c.tend-owns.new.self n q k few admitted table e.harts e.later e.idle e.soon e.live allowed in
     let quanta : c.put_quantum.new.list.items ≡ s.quanta.items ++ q ∷ [] = c.put_quantum.ensures.items ∙ ap (λ (l : List Quantum). l ++ q ∷ []) c.in_ok-reserve.ensures.items in
-    subst (λ (l : List CheckedWish). IsKept i c.put_quantum.new.list.items false l c.tend-owns.new.self) (sym (drop_sum n s.looked s.wishes.items))
-    (subst (λ (l : List Quantum). IsKept i l false (drop n later) c.tend-owns.new.self) (sym quanta) kept)
+    subst (λ (l : List CheckedWish). IsTableAfter i c.put_quantum.new.list.items false l c.tend-owns.new.self) (sym (drop_sum n s.looked s.wishes.items))
+    (subst (λ (l : List Quantum). IsTableAfter i l false (drop n later) c.tend-owns.new.self) (sym quanta) kept)
 
 kept_on : (c : goal.After-put_quantum)
-    → IsKept c.self.inside.inputs (c.put_quantum.new.list.items) c.self.inside.closed (drop (c.self.inside.looked + c.in_ok-looked.looked) c.self.inside.wishes.items) c.tend-owns.new.self
+    → IsTableAfter c.self.inside.inputs (c.put_quantum.new.list.items) c.self.inside.closed (drop (c.self.inside.looked + c.in_ok-looked.looked) c.self.inside.wishes.items) c.tend-owns.new.self
 kept_on c =
     let s = c.self.inside in
     let going : s.closed ≡ false = ap (λ (x : SessionData). x.closed) c.self.view_is ∙ c.requires.going in
-    subst (λ b. IsKept s.inputs c.put_quantum.new.list.items b (drop (s.looked + c.in_ok-looked.looked) s.wishes.items) c.tend-owns.new.self) (sym going) (kept_now c)
+    subst (λ b. IsTableAfter s.inputs c.put_quantum.new.list.items b (drop (s.looked + c.in_ok-looked.looked) s.wishes.items) c.tend-owns.new.self) (sym going) (kept_now c)
 
 pub invariant_of-self-2 : goal.invariant_of-self-2
 invariant_of-self-2 c =
     let s = c.self.inside in
-    let admitted : IsAdmission s.inputs (drop s.looked s.wishes.items) s.desk c.admit_from.new.desk c.in_ok-looked.looked =
-    subst (λ (l : List CheckedWish). IsAdmission s.inputs (drop s.looked l) s.desk c.admit_from.new.desk c.in_ok-looked.looked) c.deref.ensures.value c.in_ok-looked.ensures.ok in
+    let admitted : IsAfterAdmission s.inputs (drop s.looked s.wishes.items) s.desk c.admit_from.new.desk c.in_ok-looked.looked =
+    subst (λ (l : List CheckedWish). IsAfterAdmission s.inputs (drop s.looked l) s.desk c.admit_from.new.desk c.in_ok-looked.looked) c.deref.ensures.value c.in_ok-looked.ensures.ok in
     let low = admitted.looked in
     let first = c.self.invariant.1 in
     let len = c.deref.ensures.len in
@@ -126,7 +126,7 @@ invariant_of-self-2 c =
     )
 
 pub returns-clause-machine : goal.returns-clause-machine
-returns-clause-machine c = ap (λ (k : Kept). k.machine) (kept_on c).state.kept
+returns-clause-machine c = ap (λ (k : SessionState). k.machine) (kept_on c).state.kept
 
 -- ---- the budget
 

@@ -1,5 +1,5 @@
 use Rattle.machine.specs.Cores.{Core}
-use Rattle.machine.specs.Effects.{after}
+use Rattle.machine.specs.Effects.{after_event}
 use Rattle.machine.specs.Events.{Arm}
 use Rattle.machine.specs.Replays.{replay}
 use Rattle.test_examples.specs.ThreeCounters.{adding, first, second, third}
@@ -15,16 +15,16 @@ arm-requires-clause-may c = arm_legal c.in_ok-first.first first c.in_ok-machine.
 pub arm-requires-2-clause-may : goal.arm-requires-2-clause-may
 arm-requires-2-clause-may c =
     let m = armed_so c.in_ok-first.first first c.in_ok-machine.machine c.arm.new.machine all 1 c.in_ok-first.ensures c.in_ok-machine.ensures c.arm.ensures in
-    arm_legal c.in_ok-second.second second c.arm.new.machine (after all (Arm first)) 1 c.in_ok-second.ensures m arms_all.1.0
+    arm_legal c.in_ok-second.second second c.arm.new.machine (after_event all (Arm first)) 1 c.in_ok-second.ensures m arms_all.1.0
 
 pub arm-requires-3-clause-may : goal.arm-requires-3-clause-may
 arm-requires-3-clause-may c =
     let m = armed_so c.in_ok-first.first first c.in_ok-machine.machine c.arm.new.machine all 1 c.in_ok-first.ensures c.in_ok-machine.ensures c.arm.ensures in
-    let n = armed_so c.in_ok-second.second second c.arm.new.machine c.arm-2.new.machine (after all (Arm first)) 1 c.in_ok-second.ensures m c.arm-2.ensures in
-    arm_legal c.in_ok-third.third third c.arm-2.new.machine (after (after all (Arm first)) (Arm second)) 1 c.in_ok-third.ensures n arms_all.1.1.0
+    let n = armed_so c.in_ok-second.second second c.arm.new.machine c.arm-2.new.machine (after_event all (Arm first)) 1 c.in_ok-second.ensures m c.arm-2.ensures in
+    arm_legal c.in_ok-third.third third c.arm-2.new.machine (after_event (after_event all (Arm first)) (Arm second)) 1 c.in_ok-third.ensures n arms_all.1.1.0
 
 pub returns : goal.returns
 returns c =
     let m = armed_so c.in_ok-first.first first c.in_ok-machine.machine c.arm.new.machine all 1 c.in_ok-first.ensures c.in_ok-machine.ensures c.arm.ensures in
-    let n = armed_so c.in_ok-second.second second c.arm.new.machine c.arm-2.new.machine (after all (Arm first)) 1 c.in_ok-second.ensures m c.arm-2.ensures in
-    armed_so c.in_ok-third.third third c.arm-2.new.machine c.arm-3.new.machine (after (after all (Arm first)) (Arm second)) 1 c.in_ok-third.ensures n c.arm-3.ensures
+    let n = armed_so c.in_ok-second.second second c.arm.new.machine c.arm-2.new.machine (after_event all (Arm first)) 1 c.in_ok-second.ensures m c.arm-2.ensures in
+    armed_so c.in_ok-third.third third c.arm-2.new.machine c.arm-3.new.machine (after_event (after_event all (Arm first)) (Arm second)) 1 c.in_ok-third.ensures n c.arm-3.ensures

@@ -1,7 +1,7 @@
 use Rattle.std.proofs.Common.{◌≡◌, ◌∙◌, Bool, ap, arith}
 use Rattle.std.specs.Prelude.{if◌then◌else◌, ◌↔◌, IsTrue}
 use Rattle.machine.specs.Cores.{Core}
-use Rattle.machine.specs.Effects.{after}
+use Rattle.machine.specs.Effects.{after_event}
 use Rattle.machine.specs.Events.{Free, May}
 use Rattle.machine.specs.Replays.{replay}
 use Rattle.machine.specs.States.{Machine, with_core, settling}
@@ -16,13 +16,13 @@ abbrev settle : Core → Core
 settle d = replay (settling d) d
 
 abbrev freed : Core
-freed = after gone_on (Free 0x10000)
+freed = after_event gone_on (Free 0x10000)
 
 -- after the first try, the settling and the second try
 tried : (m1 m2 m3 m4 : Machine) (a b : Bool) → m1 ≡ record { core = passed_by; room = 1 }
-    → IsTrue a ↔ May m1.core (Free 0x10000) → m2 ≡ (if a then with_core m1 (after m1.core (Free 0x10000)) else m1)
+    → IsTrue a ↔ May m1.core (Free 0x10000) → m2 ≡ (if a then with_core m1 (after_event m1.core (Free 0x10000)) else m1)
     → m3 ≡ with_core m2 (settle m2.core)
-    → IsTrue b ↔ May m3.core (Free 0x10000) → m4 ≡ (if b then with_core m3 (after m3.core (Free 0x10000)) else m3)
+    → IsTrue b ↔ May m3.core (Free 0x10000) → m4 ≡ (if b then with_core m3 (after_event m3.core (Free 0x10000)) else m3)
     → m4 ≡ record { core = freed; room = 1 }
 tried m1 m2 m3 m4 a b e may h s again g =
     let two = held_so m1 m2 passed_by 1 0x10000 a e may h minis_unlinked.held in

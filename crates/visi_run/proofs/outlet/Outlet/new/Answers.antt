@@ -1,6 +1,6 @@
 use Rattle.std.proofs.Common.{◌≡◌, ◌∙◌, List, ap, length, sym}
 use Rattle.std.specs.Prelude.{◌-◌, ◌^◌, false, min}
-use Rattle.session_spec.specs.declared.data.Latest.{Latest}
+use Rattle.session_spec.specs.declared.data.LatestSample.{LatestSample}
 use Rattle.visi_run.specs.Readings.{last_of}
 use Rattle.visi_run.specs.declared.dial.Reading.{Reading}
 use Rattle.session.specs.Sessions.{state_of}
@@ -12,7 +12,7 @@ pub returns-clause-told : goal.returns-clause-told
 returns-clause-told c =
     let none = sym (begun_feed c.args.session.now c.requires.begun) in
     let early = sym (begun_time c.args.session.now c.requires.begun) in
-    let published = ap (λ (l : List Latest). min (length l) (2 ^ 64 - 1)) none in
+    let published = ap (λ (l : List LatestSample). min (length l) (2 ^ 64 - 1)) none in
     let same : ◌≡◌ {A = Reading} (record { published = 0; ticks = 0; ended = false }) (reading_of (state_of c.args.session.now) false) =
     λ k. record { published = published k; ticks = early k; ended = false } in
     record {

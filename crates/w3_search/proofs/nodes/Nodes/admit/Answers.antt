@@ -4,7 +4,7 @@ use Rattle.std.specs.Vec.{with_items}
 use Rattle.w3_search.specs.declared.node.Node.{Node}
 use Rattle.w3_search.specs.declared.node.NodeState.TheVariants.{Active}
 use Rattle.w3_search.specs.Index.{IsIndexed, inserted, without}
-use Rattle.w3_search.specs.Nodes.{active_of, changed, in_state, is_active, is_waiting, place_of, waiting_of}
+use Rattle.w3_search.specs.Nodes.{active_of, with_node_changed, in_state, is_active, is_waiting, place_of, waiting_of}
 use Rattle.w3_search.specs.Steps.{Waits}
 use Rattle.w3_search.proofs.Changes.{there, length_changed, places_changed}
 use Rattle.w3_search.proofs.Indexes.{indexed, items_are}
@@ -21,7 +21,7 @@ put_in-requires c =
     let r = there (slice_get ns k) (subst (Waits k) (sym c.self.view_is) c.requires) in
     let joined = ap (λ (l : List ℕ). length l) (numbers_join (λ n. is_active n.state) f ns k 0 r.0 r.1 (ap is_active r.2) refl) in
     let tests = ap (λ (l : List ℕ). length l) i.0.under_test in
-    omega (arith, few_numbers (λ n. is_active n.state) 0 (changed f k ns), length_changed f ns k, length_inserted (0 + k) (active_of ns), i.0.few, i.1.for_active)
+    omega (arith, few_numbers (λ n. is_active n.state) 0 (with_node_changed f k ns), length_changed f ns k, length_inserted (0 + k) (active_of ns), i.0.few, i.1.for_active)
 
 pub invariant_of-self : goal.invariant_of-self
 invariant_of-self c =
@@ -33,7 +33,7 @@ invariant_of-self c =
     let f : Node → Node = in_state Active in
     let ws = c.set_state.new.nodes in
     let r = there (slice_get ns k) (subst (Waits k) (sym c.self.view_is) c.requires) in
-    let e : ws ≡ changed f k ns = c.set_state.ensures ∙ ap (changed f k) c.deref_mut.ensures.value in
+    let e : ws ≡ with_node_changed f k ns = c.set_state.ensures ∙ ap (with_node_changed f k) c.deref_mut.ensures.value in
     let len : length ws ≡ length ns = ap (λ (l : List Node). length l) e ∙ length_changed f ns k in
     let items : (with_items s.list ws).items ≡ ws = items_are s.list ws len in (
       subst (λ (l : List Node). IsIndexed l s.index c.take_out.new.numbers.items c.put_in.new.numbers.items) (sym items)

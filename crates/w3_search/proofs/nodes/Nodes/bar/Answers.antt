@@ -4,7 +4,7 @@ use Rattle.std.specs.Vec.{with_items}
 use Rattle.w3_search.specs.declared.node.Node.{Node}
 use Rattle.w3_search.specs.declared.node.NodeState.TheVariants.{Barred}
 use Rattle.w3_search.specs.Index.{IsIndexed, without}
-use Rattle.w3_search.specs.Nodes.{active_of, changed, in_state, is_active, is_waiting, place_of, waiting_of}
+use Rattle.w3_search.specs.Nodes.{active_of, with_node_changed, in_state, is_active, is_waiting, place_of, waiting_of}
 use Rattle.w3_search.specs.Steps.{Waits}
 use Rattle.w3_search.proofs.Changes.{there, length_changed, places_changed}
 use Rattle.w3_search.proofs.Indexes.{indexed, items_are}
@@ -21,7 +21,7 @@ invariant_of-self c =
     let f : Node → Node = in_state (Barred c.args.cause) in
     let ws = c.set_state.new.nodes in
     let r = there (slice_get ns k) (subst (Waits k) (sym c.self.view_is) c.requires) in
-    let e : ws ≡ changed f k ns = c.set_state.ensures ∙ ap (changed f k) c.deref_mut.ensures.value in
+    let e : ws ≡ with_node_changed f k ns = c.set_state.ensures ∙ ap (with_node_changed f k) c.deref_mut.ensures.value in
     let len : length ws ≡ length ns = ap (λ (l : List Node). length l) e ∙ length_changed f ns k in
     let items : (with_items s.list ws).items ≡ ws = items_are s.list ws len in (
       subst (λ (l : List Node). IsIndexed l s.index c.take_out.new.numbers.items s.active.items) (sym items)

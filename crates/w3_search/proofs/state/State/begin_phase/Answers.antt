@@ -2,8 +2,8 @@ use Rattle.std.proofs.Common.{◌≡◌, ◌+◌, ◌≤◌, ◌<◌, ℕ, List,
 use Rattle.w3_axes.specs.Refining.{roots}
 use Rattle.w3_search.specs.declared.node.Node.{Node}
 use Rattle.w3_search.specs.History.{AreFew, AreHere}
-use Rattle.w3_search.specs.Nodes.{active_of, finished, is_active, unfinished}
-use Rattle.w3_search.specs.Steps.{Rules, SearchData, active_in, begun, with_roots}
+use Rattle.w3_search.specs.Nodes.{active_of, node_at_end, is_active, unfinished}
+use Rattle.w3_search.specs.Steps.{Rules, SearchData, active_in, with_next_phase, with_roots}
 use Rattle.w3_search.proofs.Ends.{active_here, all_closed, none_active, phase_ends}
 use Rattle.w3_search.proofs.Kept.{Kept, kept_roots}
 use Rattle.w3_search.proofs.Numbering.{numbers_none}
@@ -15,11 +15,11 @@ invariant_of-self c =
     let i = c.self.invariant in
     let q = s.present + 1 in
     let w = s.decl.window in
-    let before : Kept w q [] [] (map finished s.nodes) = record {
+    let before : Kept w q [] [] (map node_at_end s.nodes) = record {
       few = all_closed (λ (n : Node). n.seen < w) s.nodes;
       here = all_closed (λ (n : Node). n.phase ≡ q) s.nodes;
       dropped = λ j n listed e. absurd listed;
-      same = numbers_none (λ n. is_active n.state) finished none_active 0 s.nodes;
+      same = numbers_none (λ n. is_active n.state) node_at_end none_active 0 s.nodes;
     } in
     let kept = kept_roots w q [] [] i.some c.roots.result.now c.end_open.new.self (subst (Kept w q [] []) (sym c.end_open.ensures) before) in
     let phase : s.present < length s.phases.items = subst (λ (v : SearchData). v.present < length v.rules.phases) (sym c.self.view_is) c.requires.phase in
@@ -46,7 +46,7 @@ returns-clause-state c =
     let v : SearchData = record { rules = rules; nodes = s.nodes; present = q; drops = s.drops.items } in
     ap (λ (l : List Node). record v { nodes = l; drops = c.push_all.new.numbers.items }) nodes
     ∙ ap (λ (l : List ℕ). record v { nodes = with_roots q (roots s.hypotheses) (map (unfinished s.present) s.nodes); drops = l }) drops
-    ∙ ap begun c.self.view_is
+    ∙ ap with_next_phase c.self.view_is
 
 pub returns-clause-room : goal.returns-clause-room
 returns-clause-room c =
@@ -54,11 +54,11 @@ returns-clause-room c =
     let i = c.self.invariant in
     let q = s.present + 1 in
     let w = s.decl.window in
-    let before : Kept w q [] [] (map finished s.nodes) = record {
+    let before : Kept w q [] [] (map node_at_end s.nodes) = record {
       few = all_closed (λ (n : Node). n.seen < w) s.nodes;
       here = all_closed (λ (n : Node). n.phase ≡ q) s.nodes;
       dropped = λ j n listed e. absurd listed;
-      same = numbers_none (λ n. is_active n.state) finished none_active 0 s.nodes;
+      same = numbers_none (λ n. is_active n.state) node_at_end none_active 0 s.nodes;
     } in
     let kept = kept_roots w q [] [] i.some c.roots.result.now c.end_open.new.self (subst (Kept w q [] []) (sym c.end_open.ensures) before) in
     let none = ap (λ (l : List ℕ). length l) (ap active_of c.add_roots.ensures ∙ kept.same) in
