@@ -4,7 +4,7 @@ use Rattle.std.specs.List.{fold, reduce, All}
 use Rattle.std.proofs.Math.Nat.{le-div_iff_mul-le, mul-le-mul_right}
 use Rattle.std.proofs.lemmas.List.Elements.{All-head, All-tail, All-weaker}
 use Rattle.std.proofs.lemmas.Slice.Eq.{bytes_eq-Decides}
-use Rattle.w3_axes.specs.Testing.{Holds, holds}
+use Rattle.w3_search.specs.Testing.{Holds, holds}
 use Rattle.advice.specs.Advice.{most_threshold, rate, is_true_of, threshold_of}
 use Rattle.advice.specs.Laws.{IsAnswerAt, AnswersStay}
 use Rattle.advice.specs.declared.verdict.Verdict.{Verdict}

@@ -1,7 +1,7 @@
 -- That advised thresholds keep the results of the test.
 use Rattle.std.specs.Prelude.{ℕ, ◌≡◌, ◌≤◌, Some, List}
 use Rattle.std.specs.List.{All}
-use Rattle.w3_axes.specs.Testing.{holds}
+use Rattle.w3_search.specs.Testing.{holds}
 use Rattle.advice.specs.Advice.{most_threshold, threshold_of}
 use Rattle.advice.specs.declared.verdict.Verdict.{Verdict}
 

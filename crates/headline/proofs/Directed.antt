@@ -28,8 +28,8 @@ use Rattle.session.specs.Parts.{node_part, parts_of, search_part}
 use Rattle.session_spec.specs.Inputs.{Inputs}
 use Rattle.session_spec.specs.Searches.{rules_by, rules_of}
 use Rattle.session_spec.specs.Told.{IsJudged, IsOpenEnd}
-use Rattle.w3_axes.specs.Refining.{threshold_of}
-use Rattle.w3_axes.specs.Testing.{holds}
+use Rattle.w3_search.specs.Refining.{threshold_of}
+use Rattle.w3_search.specs.Testing.{holds}
 use Rattle.w3_search.specs.Nodes.{most_nodes}
 use Rattle.w3_search.specs.Steps.{Rules, SearchData}
 use Rattle.w3_search.specs.declared.node.Node.{Node}

@@ -7,7 +7,7 @@ use Rattle.pn_types.specs.declared.focus.Axis.TheVariants.{Code, Machine, SyncOb
 use Rattle.pn_types.specs.declared.focus.Focus.{Focus}
 use Rattle.resource_tree.specs.Foci as foci
 use Rattle.resource_tree.specs.Resources.{Resources}
-use Rattle.w3_axes.specs.Refining.{axes_named, children, children_of, finer, finer_on, names_axis, numbers_from, refinements, roots}
+use Rattle.w3_search.specs.Refining.{axes_named, children, children_of, finer, finer_on, names_axis, hypothesis_numbers_from, refinements, roots}
 use Rattle.w3_search.specs.History.{In, IsChild, IsHistory, IsRoot, lineage_of}
 use Rattle.w3_search.specs.Steps.{SearchData}
 use Rattle.w3_search.specs.declared.node.Node.{Node}
@@ -137,11 +137,11 @@ record Stands (hs : List Hypothesis) (a j : ℕ) : Type 0 where
 behind : (x : Hypothesis) (hs : List Hypothesis) (a j : ℕ) → Stands hs (a + 1) j → Stands (x ∷ hs) a j
 behind x hs a j s = let number = s.number in record { k = suc s.k; h = s.h; number = omega arith; there = s.there }
 
-number_there : (passes : Hypothesis → Bool) (hs : List Hypothesis) (a j : ℕ) → In j (numbers_from passes a hs) → Stands hs a j
+number_there : (passes : Hypothesis → Bool) (hs : List Hypothesis) (a j : ℕ) → In j (hypothesis_numbers_from passes a hs) → Stands hs a j
 number_there passes [] a j there = absurd there
 number_there passes (x ∷ hs) a j there = by (passes x) (λ rest. behind x hs a j (number_there passes hs (a + 1) j rest)) there
   where
-    by : (b : Bool) → (In j (numbers_from passes (a + 1) hs) → Stands (x ∷ hs) a j) → In j (cond b (a ∷ numbers_from passes (a + 1) hs) (numbers_from passes (a + 1) hs)) → Stands (x ∷ hs) a j
+    by : (b : Bool) → (In j (hypothesis_numbers_from passes (a + 1) hs) → Stands (x ∷ hs) a j) → In j (cond b (a ∷ hypothesis_numbers_from passes (a + 1) hs) (hypothesis_numbers_from passes (a + 1) hs)) → Stands (x ∷ hs) a j
     by true later (inl e) = record { k = 0; h = x; number = omega arith; there = refl }
     by true later (inr rest) = later rest
     by false later rest = later rest

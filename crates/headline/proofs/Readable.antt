@@ -36,8 +36,8 @@ use Rattle.session_spec.specs.States.{State}
 use Rattle.session_spec.specs.Told.{AreEnded, IsJudged, IsOpenEnd, IsVerdict}
 use Rattle.session_spec.specs.Verdicts.{ticks_in}
 use Rattle.session_spec.specs.Work.{final_state, after_quanta}
-use Rattle.w3_axes.specs.Refining.{threshold_of}
-use Rattle.w3_axes.specs.Testing.{holds}
+use Rattle.w3_search.specs.Refining.{threshold_of}
+use Rattle.w3_search.specs.Testing.{holds}
 use Rattle.w3_search.specs.declared.node.NodeState.TheVariants.{Confirmed, Rejected}
 use Rattle.advice.specs.Seams.{AreSums, HasNumbers, AreSearchLines, IsHistogramLine, IsNodeLine, IsRefusedLine, IsSmall, is_one_line}
 use Rattle.advice.proofs.CanonicalFoci.{canonical_is_focus}

@@ -12,7 +12,7 @@ use Rattle.pn_types.specs.declared.focus.Axis.TheVariants.{Code, Machine, SyncOb
 use Rattle.pn_types.specs.declared.focus.Focus.{Focus}
 use Rattle.report.specs.declared.parts.NodePart.{NodePart}
 use Rattle.report.specs.declared.parts.SearchPart.{SearchPart}
-use Rattle.w3_axes.specs.Testing.{holds}
+use Rattle.w3_search.specs.Testing.{holds}
 use Rattle.w3_search.specs.declared.node.NodeState.TheVariants.{Confirmed, Rejected}
 
 -- two foci with the same part on an axis

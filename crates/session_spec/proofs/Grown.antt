@@ -9,11 +9,11 @@ use Rattle.instrument.proofs.Folds.{append_left, append_right}
 use Rattle.mdl_ast.specs.declared.items.Hypothesis.{Hypothesis}
 use Rattle.mdl_ast.specs.declared.items.PhaseDecl.{PhaseDecl}
 use Rattle.resource_tree.specs.Resources.{Resources}
-use Rattle.w3_axes.specs.Refining.{children, roots}
+use Rattle.w3_search.specs.Refining.{children, roots}
 use Rattle.w3_search.specs.declared.node.Node.{Node}
 use Rattle.w3_search.specs.declared.node.NodeState.{NodeState}
 use Rattle.w3_search.specs.declared.node.NodeState.TheVariants.{Active, Unfinished}
-use Rattle.w3_search.specs.Nodes.{with_node_changed, in_state, is_active, is_confirmed, is_free, is_open, is_waiting, new_node, numbers_from, place, unfinished, with_node}
+use Rattle.w3_search.specs.Nodes.{with_node_changed, in_state, is_active, is_confirmed, is_free, is_open, is_waiting, new_node, node_numbers_from, place, unfinished, with_node}
 use Rattle.w3_search.specs.Steps.{SearchData, active_in, with_next_phase, with_all_families, with_children, with_families, with_family, with_family_of, with_phases, with_roots}
 use Rattle.w3_search.proofs.Changes.{all_children, all_roots}
 
@@ -60,14 +60,14 @@ changed_there f (x ∷ ns) (suc i) zero e = refl
 changed_there f (x ∷ ns) (suc i) (suc j) e = changed_there f ns i j (λ s. e (ap suc s))
 
 -- a node that passes a test is among the numbers
-pub number_in : (p : Node → Bool) (k : ℕ) (ns : List Node) (i : ℕ) (n : Node) → slice_get ns i ≡ Some n → p n ≡ true → In (k + i) (numbers_from p k ns)
+pub number_in : (p : Node → Bool) (k : ℕ) (ns : List Node) (i : ℕ) (n : Node) → slice_get ns i ≡ Some n → p n ≡ true → In (k + i) (node_numbers_from p k ns)
 number_in p k [] i n e a = cc
 number_in p k (x ∷ ns) zero n e a =
     let s : x ≡ n = cc in
-    subst (In (k + 0)) (sym (cond-true (p x) (k ∷ numbers_from p (k + 1) ns) (numbers_from p (k + 1) ns) (ap p s ∙ a))) (inl (omega arith))
+    subst (In (k + 0)) (sym (cond-true (p x) (k ∷ node_numbers_from p (k + 1) ns) (node_numbers_from p (k + 1) ns) (ap p s ∙ a))) (inl (omega arith))
 number_in p k (x ∷ ns) (suc i) n e a =
-    let h : In (k + suc i) (numbers_from p (k + 1) ns) = subst (λ (j : ℕ). In j (numbers_from p (k + 1) ns)) (omega arith) (number_in p (k + 1) ns i n e a) in
-    cond_both (p x) (k ∷ numbers_from p (k + 1) ns) (numbers_from p (k + 1) ns) (In (k + suc i)) (λ _. inr h) (λ _. h)
+    let h : In (k + suc i) (node_numbers_from p (k + 1) ns) = subst (λ (j : ℕ). In j (node_numbers_from p (k + 1) ns)) (omega arith) (number_in p (k + 1) ns i n e a) in
+    cond_both (p x) (k ∷ node_numbers_from p (k + 1) ns) (node_numbers_from p (k + 1) ns) (In (k + suc i)) (λ _. inr h) (λ _. h)
 
 -- ---- growth
 

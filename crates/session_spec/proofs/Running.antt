@@ -11,8 +11,8 @@ use Rattle.machine.proofs.Sums.{measures_add}
 use Rattle.instrument.specs.declared.number.State.TheVariants.{Placing, Armed}
 use Rattle.mdl_ast.specs.declared.items.Hypothesis.{Hypothesis}
 use Rattle.mdl_plan.specs.declared.fault.PlanFault.{PlanFault}
-use Rattle.w3_axes.specs.Refining.{threshold_of}
-use Rattle.w3_axes.specs.Testing.{holds}
+use Rattle.w3_search.specs.Refining.{threshold_of}
+use Rattle.w3_search.specs.Testing.{holds}
 use Rattle.w3_search.specs.declared.node.Node.{Node}
 use Rattle.w3_search.specs.declared.node.NodeSample.{NodeSample}
 use Rattle.w3_search.specs.declared.node.NodeState.{NodeState}

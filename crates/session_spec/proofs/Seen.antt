@@ -8,8 +8,8 @@ use Rattle.machine.specs.Measures.{measure}
 use Rattle.instrument.specs.Placements.{Placements, is_leaving, state_of}
 use Rattle.instrument.specs.declared.number.State.{State as Stage}
 use Rattle.instrument.specs.declared.number.State.TheVariants.{Placing, Armed}
-use Rattle.w3_axes.specs.Refining.{threshold_of}
-use Rattle.w3_axes.specs.Testing.{holds}
+use Rattle.w3_search.specs.Refining.{threshold_of}
+use Rattle.w3_search.specs.Testing.{holds}
 use Rattle.w3_search.specs.declared.node.Node.{Node}
 use Rattle.w3_search.specs.declared.node.NodeState.{NodeState}
 use Rattle.w3_search.specs.declared.node.NodeState.TheVariants.{Active, Confirmed, Rejected, Unfinished}

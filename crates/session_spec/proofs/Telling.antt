@@ -10,7 +10,7 @@ use Rattle.machine.specs.States.{quantum_turns, settling}
 use Rattle.instrument.specs.Scenes.{Hands}
 use Rattle.instrument.proofs.Numbers as numbers
 use Rattle.instrumented.specs.Instrumented.{repeated, after_turns}
-use Rattle.w3_axes.specs.Refining.{roots}
+use Rattle.w3_search.specs.Refining.{roots}
 use Rattle.w3_search.specs.declared.node.Node.{Node}
 use Rattle.session_spec.specs.Inputs.{Inputs, first_wishes}
 use Rattle.session_spec.specs.Searches.{rules_of}

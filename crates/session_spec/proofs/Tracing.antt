@@ -27,8 +27,8 @@ use Rattle.session_spec.specs.Opening.{opening_state, wished, with_agenda}
 use Rattle.session_spec.specs.Tests.{tested, tests_next, with_tests}
 use Rattle.session_spec.specs.Verdicts.{with_search_end, with_verdicts}
 use Rattle.session_spec.specs.Work.{final_state, first_state, is_due, state_admitted, state_armed, state_done, state_ended, state_handed, state_last, state_quiet, state_sampled, state_turned, state_worked, after_quantum, tests_now, after_quanta, after_quanta_from}
-use Rattle.w3_axes.specs.Refining.{threshold_of}
-use Rattle.w3_axes.specs.Testing.{holds}
+use Rattle.w3_search.specs.Refining.{threshold_of}
+use Rattle.w3_search.specs.Testing.{holds}
 use Rattle.session_spec.proofs.Ends.{IsUnjudged}
 use Rattle.session_spec.proofs.Grown.{changed_here, changed_there, some_same}
 use Rattle.session_spec.proofs.Leaving.{tests_alone}

@@ -9,7 +9,7 @@ use Rattle.mdl_ast.specs.declared.items.Hypothesis.{Hypothesis}
 use Rattle.resource_tree.specs.Foci as foci
 use Rattle.resource_tree.specs.Foci.{IsBelow, code_children, flat_children, harts_of_node, with_code, with_hart, with_object}
 use Rattle.resource_tree.specs.Resources.{Resources}
-use Rattle.w3_axes.specs.Refining.{axes_named, children, children_of, finer, finer_on, refinements}
+use Rattle.w3_search.specs.Refining.{axes_named, children, children_of, finer, finer_on, refinements}
 use Rattle.w3_search.specs.History.{In, IsChild, IsHistory, IsRoot, lineage_of}
 use Rattle.w3_search.specs.Steps.{SearchData}
 use Rattle.w3_search.specs.declared.node.Node.{Node}

@@ -4,8 +4,8 @@ use Rattle.pn_types.specs.declared.pick.BarCause.{BarCause}
 use Rattle.pn_types.specs.declared.plan.Plan.{Plan}
 use Rattle.pn_types.specs.declared.quantum.Quantum.{Quantum}
 use Rattle.fold_hist.specs.declared.bin.Bin.{Bin}
-use Rattle.w3_axes.specs.Refining.{threshold_of}
-use Rattle.w3_axes.specs.Testing.{holds}
+use Rattle.w3_search.specs.Refining.{threshold_of}
+use Rattle.w3_search.specs.Testing.{holds}
 use Rattle.w3_search.specs.declared.node.Node.{Node}
 use Rattle.w3_search.specs.declared.node.NodeState.TheVariants.{Barred, Confirmed, Rejected, Unfinished}
 use Rattle.session_spec.specs.declared.data.MetricFocusPair.{MetricFocusPair}

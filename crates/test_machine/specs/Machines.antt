@@ -5,10 +5,10 @@ use Rattle.test_machine.specs.Vectors.{State}
 use Rattle.test_machine.specs.declared.conformance.executor.Machine.{Machine}
 
 -- the memory, the reservations and the output of a machine
-abbrev pub prog_in : Machine → Prog
-prog_in m = prog_of m.shared.mem m.shared.resv m.shared.out
+abbrev pub prog_of_machine : Machine → Prog
+prog_of_machine m = prog_of m.shared.mem m.shared.resv m.shared.out
 
 -- for proofs alone: the result is the pc of a state, whose registers and machine are these, or none
 abbrev pub Reaches : Option State → Option ℕ → List ℕ → Machine → Type 0
 Reaches state result regs machine =
-    MatchOption result (state ≡ None) (λ pc. state ≡ Some (record { pc = pc; regs = regs; prog = prog_in machine }))
+    MatchOption result (state ≡ None) (λ pc. state ≡ Some (record { pc = pc; regs = regs; prog = prog_of_machine machine }))

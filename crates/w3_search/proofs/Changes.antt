@@ -9,8 +9,8 @@ use Rattle.mdl_ast.specs.declared.items.Hypothesis.{Hypothesis}
 use Rattle.mdl_ast.specs.declared.items.PhaseDecl.{PhaseDecl}
 use Rattle.resource_tree.specs.Foci as foci
 use Rattle.resource_tree.specs.Resources.{Resources}
-use Rattle.w3_axes.specs.Testing.{holds}
-use Rattle.w3_axes.specs.Refining.{children, threshold_of}
+use Rattle.w3_search.specs.Testing.{holds}
+use Rattle.w3_search.specs.Refining.{children, threshold_of}
 use Rattle.w3_search.specs.declared.node.Node.{Node}
 use Rattle.w3_search.specs.declared.node.NodeSample.{NodeSample}
 use Rattle.w3_search.specs.declared.node.NodeState.{NodeState}

@@ -7,35 +7,35 @@ use Rattle.w3_search.specs.declared.node.NodeState.{NodeState}
 use Rattle.w3_search.specs.declared.node.NodeState.TheVariants.{Waiting, Active, Confirmed, Rejected, Barred, Unfinished}
 use Rattle.w3_search.specs.Index.{changed_each}
 use Rattle.w3_search.specs.History.{AllOpen, AreHere}
-use Rattle.w3_search.specs.Nodes.{active_of, with_node_changed, node_at_end, is_active, is_open, is_waiting, numbers_from, unfinished, waiting_of}
+use Rattle.w3_search.specs.Nodes.{active_of, with_node_changed, node_at_end, is_active, is_open, is_waiting, node_numbers_from, unfinished, waiting_of}
 use Rattle.w3_search.specs.Steps.{active_in}
 use Rattle.w3_search.proofs.Changes.{active_open, length_changed}
 use Rattle.w3_search.proofs.Numbering.{numbers_map}
 
 module _ (p : Node → Bool) (f : Node → Node) where
   -- after one more node
-  each_behind : (k : ℕ) (ns xs : List Node) (x : Node) → changed_each f (numbers_from p (k + 1) ns) (x ∷ xs) ≡ x ∷ changed_each f (numbers_from p k ns) xs
+  each_behind : (k : ℕ) (ns xs : List Node) (x : Node) → changed_each f (node_numbers_from p (k + 1) ns) (x ∷ xs) ≡ x ∷ changed_each f (node_numbers_from p k ns) xs
   each_behind k [] xs x = refl
   each_behind k (n ∷ ns) xs x = by (p n) (each_behind (k + 1) ns (with_node_changed f k xs) x) (each_behind (k + 1) ns xs x)
     where
       e : k + 1 ≡ suc k
       e = omega arith
 
-      by : (b : Bool) → changed_each f (numbers_from p ((k + 1) + 1) ns) (x ∷ with_node_changed f k xs) ≡ x ∷ changed_each f (numbers_from p (k + 1) ns) (with_node_changed f k xs)
-          → changed_each f (numbers_from p ((k + 1) + 1) ns) (x ∷ xs) ≡ x ∷ changed_each f (numbers_from p (k + 1) ns) xs
-          → changed_each f (cond b ((k + 1) ∷ numbers_from p ((k + 1) + 1) ns) (numbers_from p ((k + 1) + 1) ns)) (x ∷ xs) ≡ x ∷ changed_each f (cond b (k ∷ numbers_from p (k + 1) ns) (numbers_from p (k + 1) ns)) xs
-      by true h g = ap (λ (j : ℕ). changed_each f (numbers_from p ((k + 1) + 1) ns) (with_node_changed f j (x ∷ xs))) e ∙ h
+      by : (b : Bool) → changed_each f (node_numbers_from p ((k + 1) + 1) ns) (x ∷ with_node_changed f k xs) ≡ x ∷ changed_each f (node_numbers_from p (k + 1) ns) (with_node_changed f k xs)
+          → changed_each f (node_numbers_from p ((k + 1) + 1) ns) (x ∷ xs) ≡ x ∷ changed_each f (node_numbers_from p (k + 1) ns) xs
+          → changed_each f (cond b ((k + 1) ∷ node_numbers_from p ((k + 1) + 1) ns) (node_numbers_from p ((k + 1) + 1) ns)) (x ∷ xs) ≡ x ∷ changed_each f (cond b (k ∷ node_numbers_from p (k + 1) ns) (node_numbers_from p (k + 1) ns)) xs
+      by true h g = ap (λ (j : ℕ). changed_each f (node_numbers_from p ((k + 1) + 1) ns) (with_node_changed f j (x ∷ xs))) e ∙ h
       by false h g = g
 
   -- those that pass are changed
-  pub each_is : (ns : List Node) → changed_each f (numbers_from p 0 ns) ns ≡ map (λ n. cond (p n) (f n) n) ns
+  pub each_is : (ns : List Node) → changed_each f (node_numbers_from p 0 ns) ns ≡ map (λ n. cond (p n) (f n) n) ns
   each_is [] = refl
   each_is (n ∷ ns) = by (p n) (each_is ns)
     where
-      rest : (x : Node) → changed_each f (numbers_from p 0 ns) ns ≡ map (λ n. cond (p n) (f n) n) ns → changed_each f (numbers_from p 1 ns) (x ∷ ns) ≡ x ∷ map (λ n. cond (p n) (f n) n) ns
+      rest : (x : Node) → changed_each f (node_numbers_from p 0 ns) ns ≡ map (λ n. cond (p n) (f n) n) ns → changed_each f (node_numbers_from p 1 ns) (x ∷ ns) ≡ x ∷ map (λ n. cond (p n) (f n) n) ns
       rest x h = each_behind 0 ns ns x ∙ ap (λ (l : List Node). x ∷ l) h
 
-      by : (b : Bool) → changed_each f (numbers_from p 0 ns) ns ≡ map (λ n. cond (p n) (f n) n) ns → changed_each f (cond b (0 ∷ numbers_from p 1 ns) (numbers_from p 1 ns)) (n ∷ ns) ≡ cond b (f n) n ∷ map (λ n. cond (p n) (f n) n) ns
+      by : (b : Bool) → changed_each f (node_numbers_from p 0 ns) ns ≡ map (λ n. cond (p n) (f n) n) ns → changed_each f (cond b (0 ∷ node_numbers_from p 1 ns) (node_numbers_from p 1 ns)) (n ∷ ns) ≡ cond b (f n) n ∷ map (λ n. cond (p n) (f n) n) ns
       by true h = rest (f n) h
       by false h = rest n h
 
@@ -138,10 +138,10 @@ pub phase_ends : (q : ℕ) (ns : List Node) → AreHere q ns → map (unfinished
 phase_ends q [] here = refl
 phase_ends q (n ∷ ns) here = ap (λ (m : Node). m ∷ map (unfinished q) ns) (here_ends q n here.0) ∙ ap (λ (l : List Node). node_at_end n ∷ l) (phase_ends q ns here.1)
 
-active_from : (q k : ℕ) (ns : List Node) → AreHere q ns → numbers_from (λ n. nat_eq n.phase q && is_active n.state) k ns ≡ numbers_from (λ n. is_active n.state) k ns
+active_from : (q k : ℕ) (ns : List Node) → AreHere q ns → node_numbers_from (λ n. nat_eq n.phase q && is_active n.state) k ns ≡ node_numbers_from (λ n. is_active n.state) k ns
 active_from q k [] here = refl
 active_from q k (n ∷ ns) here =
-    ap (λ (b : Bool). cond b (k ∷ numbers_from (λ n. nat_eq n.phase q && is_active n.state) (k + 1) ns) (numbers_from (λ n. nat_eq n.phase q && is_active n.state) (k + 1) ns))
+    ap (λ (b : Bool). cond b (k ∷ node_numbers_from (λ n. nat_eq n.phase q && is_active n.state) (k + 1) ns) (node_numbers_from (λ n. nat_eq n.phase q && is_active n.state) (k + 1) ns))
     (and_same (nat_eq n.phase q) (is_active n.state) (λ a. eq-eqb n.phase q (here.0 (active_open n.state a))))
     ∙ ap (λ (l : List ℕ). cond (is_active n.state) (k ∷ l) l) (active_from q (k + 1) ns here.1)
 

@@ -8,7 +8,7 @@ use Rattle.pn_types.specs.declared.focus.Focus.{Focus}
 use Rattle.pn_types.specs.declared.focus.CodePart.{CodePart}
 use Rattle.pn_types.specs.declared.focus.CodePart.TheVariants.{All, Module, Procedure}
 use Rattle.resource_tree.specs.Foci as foci
-use Rattle.w3_axes.specs.Refining.{children, roots}
+use Rattle.w3_search.specs.Refining.{children, roots}
 use Rattle.w3_search.specs.declared.node.Node.{Node}
 use Rattle.w3_search.specs.declared.node.NodeState.{NodeState}
 use Rattle.w3_search.specs.declared.node.NodeState.TheVariants.{Confirmed}

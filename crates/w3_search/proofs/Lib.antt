@@ -1,3 +1,5 @@
+pub mod HypothesisNumbering
+pub mod Counting
 pub mod Numbering
 pub mod Changes
 pub mod Ends

@@ -4,15 +4,15 @@ use Rattle.std.specs.Prelude.{slice_get, nat_eq, nat_lt, not}
 use Rattle.std.specs.Option.{option_map_or}
 use Rattle.std.proofs.lemmas.Bool.{and_parts, cond_both}
 use Rattle.mdl_ast.specs.declared.items.Hypothesis.{Hypothesis}
-use Rattle.w3_axes.specs.Testing.{holds}
-use Rattle.w3_axes.specs.Refining.{threshold_of}
+use Rattle.w3_search.specs.Testing.{holds}
+use Rattle.w3_search.specs.Refining.{threshold_of}
 use Rattle.w3_search.specs.declared.node.Node.{Node}
 use Rattle.w3_search.specs.declared.node.NodeSample.{NodeSample}
 use Rattle.w3_search.specs.declared.node.NodeState.{NodeState}
 use Rattle.w3_search.specs.declared.node.NodeState.TheVariants.{Waiting, Active, Confirmed, Rejected, Barred, Unfinished}
 use Rattle.w3_search.specs.declared.place.NodePlace.{NodePlace}
 use Rattle.w3_search.specs.History.{AreHere, In, Lineage, lineage_of}
-use Rattle.w3_search.specs.Nodes.{active_of, with_node_changed, is_active, is_active_at, is_open, is_waiting, numbers_from, place, place_of, sampled, waiting_of}
+use Rattle.w3_search.specs.Nodes.{active_of, with_node_changed, is_active, is_active_at, is_open, is_waiting, node_numbers_from, place, place_of, sampled, waiting_of}
 use Rattle.w3_search.specs.Steps.{ended_tests, with_verdict, may_take, with_sample, with_samples}
 use Rattle.w3_search.proofs.Changes.{ruled_waiting}
 
@@ -137,12 +137,12 @@ sampled_places (n ∷ ns) [] p = absurd p
 sampled_places (n ∷ ns) (m ∷ ms) p =
     ap (λ (s : Lineage). place_at s ∷ map place_of ms) p.0.aged.same ∙ ap (λ (ps : List NodePlace). place_of n ∷ ps) (sampled_places ns ms p.1)
 
-waits_from : (k : ℕ) (ns ms : List Node) → Pairs OneSampled ns ms → numbers_from (λ n. is_waiting n.state) k ms ≡ numbers_from (λ n. is_waiting n.state) k ns
+waits_from : (k : ℕ) (ns ms : List Node) → Pairs OneSampled ns ms → node_numbers_from (λ n. is_waiting n.state) k ms ≡ node_numbers_from (λ n. is_waiting n.state) k ns
 waits_from k [] [] p = refl
 waits_from k [] (m ∷ ms) p = absurd p
 waits_from k (n ∷ ns) [] p = absurd p
 waits_from k (n ∷ ns) (m ∷ ms) p =
-    ap (λ (b : Bool). cond b (k ∷ numbers_from (λ n. is_waiting n.state) (k + 1) ms) (numbers_from (λ n. is_waiting n.state) (k + 1) ms)) p.0.waits
+    ap (λ (b : Bool). cond b (k ∷ node_numbers_from (λ n. is_waiting n.state) (k + 1) ms) (node_numbers_from (λ n. is_waiting n.state) (k + 1) ms)) p.0.waits
     ∙ ap (λ (l : List ℕ). cond (is_waiting n.state) (k ∷ l) l) (waits_from (k + 1) ns ms p.1)
 
 pub sampled_waits : (ns ms : List Node) → Pairs OneSampled ns ms → waiting_of ms ≡ waiting_of ns
@@ -177,7 +177,7 @@ pub active_is : (s : NodeState) → s ≡ Active → is_active s ≡ true
 active_is s e = ap is_active e
 
 filtered_from : (q : ℕ → Bool) (k : ℕ) (ns ms : List Node) → Pairs OneSampled ns ms → ((j : ℕ) (m : Node) → slice_get ms j ≡ Some m → q (k + j) ≡ is_active m.state)
-    → filter q (numbers_from (λ n. is_active n.state) k ns) ≡ numbers_from (λ n. is_active n.state) k ms
+    → filter q (node_numbers_from (λ n. is_active n.state) k ns) ≡ node_numbers_from (λ n. is_active n.state) k ms
 filtered_from q k [] [] p h = refl
 filtered_from q k [] (m ∷ ms) p h = absurd p
 filtered_from q k (n ∷ ns) [] p h = absurd p
@@ -187,15 +187,15 @@ filtered_from q k (n ∷ ns) (m ∷ ms) p h =
     (filtered_from q (k + 1) ns ms p.1 (λ j x e. let y : (k + 1) + j ≡ k + suc j = omega arith in ap q y ∙ h (suc j) x e))
   where
     before : List ℕ
-    before = numbers_from (λ n. is_active n.state) (k + 1) ns
+    before = node_numbers_from (λ n. is_active n.state) (k + 1) ns
 
-    by : (a b : Bool) → (b ≡ true → a ≡ true) → q k ≡ b → filter q (numbers_from (λ n. is_active n.state) (k + 1) ns) ≡ numbers_from (λ n. is_active n.state) (k + 1) ms
-        → filter q (cond a (k ∷ numbers_from (λ n. is_active n.state) (k + 1) ns) (numbers_from (λ n. is_active n.state) (k + 1) ns)) ≡ cond b (k ∷ numbers_from (λ n. is_active n.state) (k + 1) ms) (numbers_from (λ n. is_active n.state) (k + 1) ms)
+    by : (a b : Bool) → (b ≡ true → a ≡ true) → q k ≡ b → filter q (node_numbers_from (λ n. is_active n.state) (k + 1) ns) ≡ node_numbers_from (λ n. is_active n.state) (k + 1) ms
+        → filter q (cond a (k ∷ node_numbers_from (λ n. is_active n.state) (k + 1) ns) (node_numbers_from (λ n. is_active n.state) (k + 1) ns)) ≡ cond b (k ∷ node_numbers_from (λ n. is_active n.state) (k + 1) ms) (node_numbers_from (λ n. is_active n.state) (k + 1) ms)
     by true true l here rest =
-        ap (λ (c : Bool). cond c (k ∷ filter q (numbers_from (λ n. is_active n.state) (k + 1) ns)) (filter q (numbers_from (λ n. is_active n.state) (k + 1) ns))) here
+        ap (λ (c : Bool). cond c (k ∷ filter q (node_numbers_from (λ n. is_active n.state) (k + 1) ns)) (filter q (node_numbers_from (λ n. is_active n.state) (k + 1) ns))) here
         ∙ ap (λ (l : List ℕ). k ∷ l) rest
     by true false l here rest =
-        ap (λ (c : Bool). cond c (k ∷ filter q (numbers_from (λ n. is_active n.state) (k + 1) ns)) (filter q (numbers_from (λ n. is_active n.state) (k + 1) ns))) here
+        ap (λ (c : Bool). cond c (k ∷ filter q (node_numbers_from (λ n. is_active n.state) (k + 1) ns)) (filter q (node_numbers_from (λ n. is_active n.state) (k + 1) ns))) here
         ∙ rest
     by false true l here rest = let e : false ≡ true = l refl in cc
     by false false l here rest = rest
@@ -240,18 +240,18 @@ out_filter q i (x ∷ xs) h = by (q x) h (λ g. out_filter q i xs g)
     by true (inr g) rest = inr (rest g)
     by false g rest = inr (rest g)
 
-in_numbers : (p : Node → Bool) (k : ℕ) (ns : List Node) (j : ℕ) (n : Node) → slice_get ns j ≡ Some n → p n ≡ true → In (k + j) (numbers_from p k ns)
+in_numbers : (p : Node → Bool) (k : ℕ) (ns : List Node) (j : ℕ) (n : Node) → slice_get ns j ≡ Some n → p n ≡ true → In (k + j) (node_numbers_from p k ns)
 in_numbers p k [] j n e h = cc
 in_numbers p k (x ∷ ns) zero n e h =
     let s : x ≡ n = cc in
     let z : k + 0 ≡ k = omega arith in
-    subst (λ (b : Bool). In (k + 0) (cond b (k ∷ numbers_from p (k + 1) ns) (numbers_from p (k + 1) ns))) (sym (ap p s ∙ h)) (inl z)
-in_numbers p k (x ∷ ns) (suc j) n e h = by (p x) (subst (λ (i : ℕ). In i (numbers_from p (k + 1) ns)) z (in_numbers p (k + 1) ns j n e h))
+    subst (λ (b : Bool). In (k + 0) (cond b (k ∷ node_numbers_from p (k + 1) ns) (node_numbers_from p (k + 1) ns))) (sym (ap p s ∙ h)) (inl z)
+in_numbers p k (x ∷ ns) (suc j) n e h = by (p x) (subst (λ (i : ℕ). In i (node_numbers_from p (k + 1) ns)) z (in_numbers p (k + 1) ns j n e h))
   where
     z : (k + 1) + j ≡ k + suc j
     z = omega arith
 
-    by : (b : Bool) → In (k + suc j) (numbers_from p (k + 1) ns) → In (k + suc j) (cond b (k ∷ numbers_from p (k + 1) ns) (numbers_from p (k + 1) ns))
+    by : (b : Bool) → In (k + suc j) (node_numbers_from p (k + 1) ns) → In (k + suc j) (cond b (k ∷ node_numbers_from p (k + 1) ns) (node_numbers_from p (k + 1) ns))
     by true g = inr g
     by false g = g
 
@@ -262,14 +262,14 @@ pub record Numbered (p : Node → Bool) (k i : ℕ) (ns : List Node) : Type 0 wh
   pub stands : slice_get ns place ≡ Some node
   pub passes : p node ≡ true
 
-numbered : (p : Node → Bool) (k i : ℕ) (ns : List Node) → In i (numbers_from p k ns) → Numbered p k i ns
+numbered : (p : Node → Bool) (k i : ℕ) (ns : List Node) → In i (node_numbers_from p k ns) → Numbered p k i ns
 numbered p k i [] h = absurd h
 numbered p k i (n ∷ ns) h = by (p n) refl h (λ g. numbered p (k + 1) i ns g)
   where
     further : Numbered p (k + 1) i ns → Numbered p k i (n ∷ ns)
     further r = let is = r.is in record { place = suc r.place; node = r.node; is = omega arith; stands = r.stands; passes = r.passes }
 
-    by : (b : Bool) → p n ≡ b → In i (cond b (k ∷ numbers_from p (k + 1) ns) (numbers_from p (k + 1) ns)) → (In i (numbers_from p (k + 1) ns) → Numbered p (k + 1) i ns) → Numbered p k i (n ∷ ns)
+    by : (b : Bool) → p n ≡ b → In i (cond b (k ∷ node_numbers_from p (k + 1) ns) (node_numbers_from p (k + 1) ns)) → (In i (node_numbers_from p (k + 1) ns) → Numbered p (k + 1) i ns) → Numbered p k i (n ∷ ns)
     by true e (inl same) rest = record { place = 0; node = n; is = omega arith; stands = refl; passes = e }
     by true e (inr g) rest = further (rest g)
     by false e g rest = further (rest g)

@@ -3,7 +3,7 @@ use Rattle.std.proofs.Common.{◌≡◌, ℕ, ◌+◌, ◌≤◌, Bool, true, fa
 use Rattle.std.specs.Prelude.{slice_get, nat_le, nat_eq, ◌&&◌}
 use Rattle.std.proofs.lemmas.Bool.{cases_lt, cond_both, true≢false}
 use Rattle.mdl_ast.specs.declared.items.PhaseDecl.{PhaseDecl}
-use Rattle.w3_axes.specs.Refining.{roots}
+use Rattle.w3_search.specs.Refining.{roots}
 use Rattle.w3_search.specs.declared.node.Node.{Node}
 use Rattle.w3_search.specs.declared.node.NodeSample.{NodeSample}
 use Rattle.w3_search.specs.declared.node.NodeState.{NodeState}

@@ -2,7 +2,7 @@
 use Rattle.std.specs.Prelude.{ℕ, ◌≡◌, ◌<◌, ◌≤◌, ◌⊎◌, true, Option, Some, None, List, [], ◌∷◌, length, slice_get}
 use Rattle.pn_types.specs.declared.focus.Focus.{Focus}
 use Rattle.resource_tree.specs.Foci as foci
-use Rattle.w3_axes.specs.Refining.{children, roots}
+use Rattle.w3_search.specs.Refining.{children, roots}
 use Rattle.w3_search.specs.declared.node.Node.{Node}
 use Rattle.w3_search.specs.declared.node.NodeState.TheVariants.{Confirmed}
 use Rattle.w3_search.specs.Nodes.{is_open, place, place_of, has_place, most_nodes}

@@ -1,3 +1,6 @@
+pub mod Testing
+pub mod Refining
+pub mod Linked
 pub mod Nodes
 pub mod Steps
 pub mod History

@@ -82,17 +82,17 @@ with_node phase parent hypothesis focus ns =
 -- ---- numbers of nodes
 
 -- the numbers of the nodes that pass a test, of which the first has number i
-abbrev pub numbers_from : (Node → Bool) → ℕ → List Node → List ℕ
-numbers_from passes i [] = []
-numbers_from passes i (n ∷ ns) = if passes n then i ∷ numbers_from passes (i + 1) ns else numbers_from passes (i + 1) ns
+abbrev pub node_numbers_from : (Node → Bool) → ℕ → List Node → List ℕ
+node_numbers_from passes i [] = []
+node_numbers_from passes i (n ∷ ns) = if passes n then i ∷ node_numbers_from passes (i + 1) ns else node_numbers_from passes (i + 1) ns
 
 -- the numbers of the nodes that wait
 abbrev pub waiting_of : List Node → List ℕ
-waiting_of ns = numbers_from (λ n. is_waiting n.state) 0 ns
+waiting_of ns = node_numbers_from (λ n. is_waiting n.state) 0 ns
 
 -- the numbers of the nodes that are under test
 abbrev pub active_of : List Node → List ℕ
-active_of ns = numbers_from (λ n. is_active n.state) 0 ns
+active_of ns = node_numbers_from (λ n. is_active n.state) 0 ns
 
 -- the node of this number is under test
 abbrev pub is_active_at : List Node → ℕ → Bool

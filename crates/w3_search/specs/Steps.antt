@@ -6,13 +6,13 @@ use Rattle.mdl_ast.specs.declared.items.SearchDecl.{SearchDecl}
 use Rattle.mdl_ast.specs.declared.items.PhaseDecl.{PhaseDecl}
 use Rattle.resource_tree.specs.Foci as foci
 use Rattle.resource_tree.specs.Resources.{Resources}
-use Rattle.w3_axes.specs.Testing.{holds}
-use Rattle.w3_axes.specs.Refining.{children, roots, threshold_of}
+use Rattle.w3_search.specs.Testing.{holds}
+use Rattle.w3_search.specs.Refining.{children, roots, threshold_of}
 use Rattle.w3_search.specs.declared.node.Node.{Node}
 use Rattle.w3_search.specs.declared.node.NodeSample.{NodeSample}
 use Rattle.w3_search.specs.declared.node.NodeState.{NodeState}
 use Rattle.w3_search.specs.declared.node.NodeState.TheVariants.{Confirmed, Rejected, Waiting}
-use Rattle.w3_search.specs.Nodes.{active_of, with_node_changed, node_at_end, in_state, is_active, is_active_at, is_confirmed, numbers_from, sampled, unfinished, with_node}
+use Rattle.w3_search.specs.Nodes.{active_of, with_node_changed, node_at_end, in_state, is_active, is_active_at, is_confirmed, node_numbers_from, sampled, unfinished, with_node}
 
 -- what a search goes by: the hypotheses, its window, the phases after the first, and the tree of the foci
 pub record Rules : Type 0 where
@@ -84,7 +84,7 @@ with_roots phase (h ∷ hs) ns = with_roots phase hs (with_node phase None h foc
 
 -- the numbers of the nodes of phase q that are under test
 abbrev pub active_in : ℕ → List Node → List ℕ
-active_in q ns = numbers_from (λ n. (n.phase == q) && is_active n.state) 0 ns
+active_in q ns = node_numbers_from (λ n. (n.phase == q) && is_active n.state) 0 ns
 
 -- the next phase begins: the open nodes of the one before end, and its roots are made
 abbrev pub with_next_phase : SearchData → SearchData

@@ -4,8 +4,9 @@ ghost use Rattle.std.specs.Prelude.{◌≡◌, ◌<◌, ◌+◌, ◌^◌, if◌t
 ghost use Rattle.w3_search.specs.Nodes.{node_at_end, is_active, is_confirmed, is_open, sampled};
 ghost use Rattle.w3_search.specs.Steps.{with_verdict, may_take};
 
+use crate::hypotheses::Hypotheses;
+use crate::testing::holds;
 use pn_types::{BarCause, Focus};
-use w3_axes::{Hypotheses, holds};
 
 /// What came of a node.
 #[derive(Clone, Copy, Debug, PartialEq, Eq, Drop)]

@@ -8,6 +8,7 @@ ghost use Rattle.w3_search.specs.Steps.{ended_tests, with_samples, Waits};
 ghost use Rattle.w3_search.specs.History.{AreFew};
 ghost use Rattle.w3_search.specs.Nodes.{active_of, with_node_changed, node_at_end, in_state, is_free, is_open, is_same_place, is_waiting, is_active, place_of, waiting_of, with_node};
 
+use crate::hypotheses::Hypotheses;
 use crate::limits::MAX_NODES;
 use crate::node::{Node, NodeSample, NodeState};
 use crate::numbers::{part_active, push_if, put_in, take_out};
@@ -17,7 +18,6 @@ use indexmap::IndexSet;
 use pn_types::{BarCause, Focus, NoMemory};
 use std::alloc::Global;
 use std::marker::Model;
-use w3_axes::Hypotheses;
 
 /// The nodes in the order in which they were made, with room for all that may be. Contracts see the list of them.
 pub(crate) struct Nodes {

@@ -1,13 +1,14 @@
 //! The state of a search, and the parts of its step.
 
 ghost use Rattle.std.specs.Prelude.{◌≡◌, ◌<◌, ◌≤◌, ◌+◌, ◌^◌, [], IfOk, drop, length};
-ghost use Rattle.w3_axes.specs.Refining.{children, roots};
+ghost use Rattle.w3_search.specs.Refining.{children, roots};
 ghost use Rattle.w3_search.specs.declared.node.NodeState.TheVariants.{Active, Barred};
 ghost use Rattle.w3_search.specs.History.{AreFew, AreHere};
 ghost use Rattle.w3_search.specs.Nodes.{active_of};
 ghost use Rattle.w3_search.specs.States.{AreOf};
 ghost use Rattle.w3_search.specs.Steps as spec;
 
+use crate::hypotheses::Hypotheses;
 use crate::limits::MAX_NODES;
 use crate::node::NodeSample;
 use crate::nodes::Nodes;
@@ -17,7 +18,6 @@ use pn_types::{BarCause, CodePart, Focus, NoMemory};
 use resource_tree::Tree;
 use std::alloc::Global;
 use std::marker::Model;
-use w3_axes::Hypotheses;
 
 /// The roots of all three hierarchies.
 const ROOT: Focus = Focus {

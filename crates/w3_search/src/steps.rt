@@ -7,9 +7,9 @@ ghost use Rattle.w3_search.specs.Steps.{with_sample, with_samples};
 ghost use Rattle.w3_search.specs.History.{AreFew};
 ghost use Rattle.w3_search.specs.Index.{changed_each};
 
+use crate::hypotheses::Hypotheses;
 use crate::node::{Node, NodeSample, NodeState};
 use pn_types::Focus;
-use w3_axes::Hypotheses;
 
 /// Gives a node a sample, which ends at t, and the verdict that it brings, if there is such a node and it takes it.
 fn add_sample(nodes: &mut [Node], hypotheses: &Hypotheses, window: u32, t: u64, sample: &NodeSample)

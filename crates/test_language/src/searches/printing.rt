@@ -3,8 +3,7 @@
 use crate::searches::inputs::Inputs;
 use pn_types::{CodePart, Focus};
 use std::io;
-use w3_axes::{child_node, holds};
-use w3_search::{Node, NodeState, Search};
+use w3_search::{Node, NodeState, Search, child_node, holds};
 
 /// The roots of all three hierarchies.
 const ROOT: Focus = Focus {

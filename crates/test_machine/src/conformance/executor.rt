@@ -55,7 +55,7 @@ fn image(alloc: Global) -> Result<Image, NoMemory>
 }
 
 impl Machine {
-    ghost use Rattle.test_machine.specs.Machines.{prog_in, Reaches};
+    ghost use Rattle.test_machine.specs.Machines.{prog_of_machine, Reaches};
     ghost use Rattle.test_machine.specs.Vectors.{Agrees, bytes_left, gone, left_by, prepared, reserved};
     ghost use Rattle.rv_word.specs.Exec.{exec_of, without_reservation};
 
@@ -78,7 +78,7 @@ impl Machine {
     /// Clears the reservation.
     fn free(&mut self)
         ensures hart { self.new.hart ≡ self.old.hart }
-        ensures freed { prog_in self.new ≡ without_reservation self.old.hart (prog_in self.old) }
+        ensures freed { prog_of_machine self.new ≡ without_reservation self.old.hart (prog_of_machine self.old) }
     {
         self.shared.resv.set(self.hart, None);
     }
@@ -87,8 +87,8 @@ impl Machine {
     /// no memory for them.
     fn prepare(&mut self, place: Option<u64>, bytes: Option<u64>) -> Option<()>
         ensures hart { self.new.hart ≡ self.old.hart }
-        ensures prepared { MatchOption result (prepared (prog_in self.old) place bytes ≡ None)
-            (λ _. prepared (prog_in self.old) place bytes ≡ Some (prog_in self.new)) }
+        ensures prepared { MatchOption result (prepared (prog_of_machine self.old) place bytes ≡ None)
+            (λ _. prepared (prog_of_machine self.old) place bytes ≡ Some (prog_of_machine self.new)) }
     {
         match place {
             Some(at) => self.shared.mem.store(at, 8, bytes?).ok(),
@@ -99,7 +99,7 @@ impl Machine {
     /// Executes the word, and says where the hart goes on, if it does.
     fn step(&mut self, word: u32, pc: u64, regs: &mut Regs) -> Option<u64>
         ensures hart { self.new.hart ≡ self.old.hart }
-        ensures reached { Reaches (gone (exec_of word pc self.old.hart regs.old (prog_in self.old))) result regs.new self.new }
+        ensures reached { Reaches (gone (exec_of word pc self.old.hart regs.old (prog_of_machine self.old))) result regs.new self.new }
     {
         let next = exec(word, pc, self.hart, regs, &mut self.shared);
         match next {
@@ -111,7 +111,7 @@ impl Machine {
     /// Lets the hart reserve what the instruction accesses, if it is to.
     fn reserve(&mut self, is_to: bool, instr: &Instr, pc: u64, regs: &mut Regs) -> Option<u64>
         ensures hart { self.new.hart ≡ self.old.hart }
-        ensures reached { Reaches (reserved is_to instr.now pc self.old.hart regs.old (prog_in self.old)) result regs.new self.new }
+        ensures reached { Reaches (reserved is_to instr.now pc self.old.hart regs.old (prog_of_machine self.old)) result regs.new self.new }
     {
         if is_to {
             self.step(encode(&reserving(instr)?), pc, regs)
@@ -132,7 +132,7 @@ impl Machine {
 
     /// Executes the word in this setting. None where it isn't an instruction, or the hart stops.
     fn run(&mut self, word: u32, before: &Setting) -> Option<Outcome>
-        ensures { result ≡ left_by (prog_in self.old) self.old.hart word before.now }
+        ensures { result ≡ left_by (prog_of_machine self.old) self.old.hart word before.now }
     {
         let instr = decode(word)?;
         let place = accessed(&instr, before.first);
@@ -152,7 +152,7 @@ impl Machine {
 
     /// Whether the word is an instruction that encodes to the same word, and does here what it did there.
     pub fn agrees(&mut self, vector: &Vector) -> bool
-        ensures { IsTrue result ↔ Agrees (prog_in self.old) self.old.hart vector.now }
+        ensures { IsTrue result ↔ Agrees (prog_of_machine self.old) self.old.hart vector.now }
     {
         is_instruction(vector.word) && self.run(vector.word, &vector.before) == Some(vector.after)
     }

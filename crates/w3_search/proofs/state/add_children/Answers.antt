@@ -1,7 +1,7 @@
 use Rattle.std.proofs.Common.{◌≡◌, ◌+◌, ◌<◌, ◌∙◌, ℕ, List, Some, drop, length, sym, ap, arith}
 use Rattle.std.specs.Prelude.{slice_get}
 use Rattle.pn_types.specs.declared.focus.Focus.{Focus}
-use Rattle.w3_axes.specs.Refining.{children}
+use Rattle.w3_search.specs.Refining.{children}
 use Rattle.w3_search.specs.Steps.{with_children}
 use Rattle.w3_search.proofs.Changes.{drop_get, in_range}
 use Rattle.w3_search.proofs.state.add_children.Goals as goal

@@ -1,5 +1,5 @@
 use Rattle.std.proofs.Common.{◌≡◌, drop}
-use Rattle.w3_axes.specs.Refining.{children}
+use Rattle.w3_search.specs.Refining.{children}
 use Rattle.w3_search.specs.Steps.{with_children}
 use Rattle.w3_search.proofs.state.add_children.Given as goal
 

@@ -1,5 +1,5 @@
 use Rattle.std.proofs.Common.{sym, subst, ap, ◌∙◌}
-use Rattle.w3_axes.specs.Refining.{roots}
+use Rattle.w3_search.specs.Refining.{roots}
 use Rattle.w3_search.specs.History.{IsHistory}
 use Rattle.w3_search.specs.Steps.{SearchData, with_roots}
 use Rattle.w3_search.proofs.Whole.{new_keeps}

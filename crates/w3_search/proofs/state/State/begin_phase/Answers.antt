@@ -1,5 +1,5 @@
 use Rattle.std.proofs.Common.{◌≡◌, ◌+◌, ◌≤◌, ◌<◌, ℕ, List, [], ◌++◌, length, map, sym, ap, subst, ◌∙◌, arith, length-append}
-use Rattle.w3_axes.specs.Refining.{roots}
+use Rattle.w3_search.specs.Refining.{roots}
 use Rattle.w3_search.specs.declared.node.Node.{Node}
 use Rattle.w3_search.specs.History.{AreFew, AreHere}
 use Rattle.w3_search.specs.Nodes.{active_of, node_at_end, is_active, unfinished}

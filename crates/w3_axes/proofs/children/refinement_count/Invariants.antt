@@ -1,7 +1,0 @@
-use Rattle.std.proofs.Common.{◌≡◌, ◌+◌, drop, length}
-use Rattle.w3_axes.specs.Refining.{is_under, numbers_from}
-use Rattle.w3_axes.proofs.children.refinement_count.Given as goal
-
-abbrev pub invariant-loop-hypothesis : goal.invariant-loop-hypothesis
-invariant-loop-hypothesis l =
-    l.count + length (numbers_from (is_under l.name) l.hypothesis-index (drop l.hypothesis-index l.hypotheses)) ≡ length (numbers_from (is_under l.name) 0 l.hypotheses)

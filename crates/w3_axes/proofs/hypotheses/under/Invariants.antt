@@ -1,8 +1,0 @@
-use Rattle.std.proofs.Common.{◌≡◌, ℕ, List, ◌++◌, drop}
-use Rattle.first_places.specs.Numbers.{numbers_under}
-use Rattle.w3_axes.specs.Refining.{is_under, numbers_from}
-use Rattle.w3_axes.proofs.hypotheses.under.Given as goal
-
-abbrev pub invariant-loop-number : goal.invariant-loop-number
-invariant-loop-number l =
-    (name : List ℕ) → numbers_under (λ key. key.items) (λ own. own.items) name l.under.entries ++ numbers_from (is_under name) l.number (drop l.number l.hypotheses) ≡ numbers_from (is_under name) 0 l.hypotheses

@@ -1,3 +1,0 @@
-pub mod Testing
-pub mod Refining
-pub mod Linked
