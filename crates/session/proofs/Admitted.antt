@@ -18,9 +18,9 @@ use Rattle.session_spec.specs.Opening.{with_all}
 use Rattle.session_spec.specs.Readings.{lasts_with}
 use Rattle.session_spec.specs.Tests.{taken_at_once, with_tests}
 use Rattle.session_spec.proofs.Going.{wish_time}
-use Rattle.session_kits.specs.declared.kit.Kit.{Kit}
-use Rattle.session_kits.specs.Kits.{AreLive}
-use Rattle.session_kits.proofs.Dropped.{shown_in}
+use Rattle.session_pairs.specs.declared.pair.SampledPair.{SampledPair}
+use Rattle.session_pairs.specs.SampledPairs.{AreLive}
+use Rattle.session_pairs.proofs.Dropped.{shown_in}
 use Rattle.session.specs.Tables.{IsAfterAdmission, IsCount, IsMore, IsNew, IsStill, Table, hist_at, kept_of}
 use Rattle.session.proofs.Counting.{count_low, take_many}
 use Rattle.session.proofs.Steps.{none_more, still_first}
@@ -71,44 +71,44 @@ wishes_are i (w ∷ ws) (suc n) k c e =
 
 -- ---- what is known of new pairs
 
-abbrev lasts_in : List Kit → List ℕ
-lasts_in kits = map (λ (k : Kit). k.last) kits
+abbrev lasts_in : List SampledPair → List ℕ
+lasts_in pairs = map (λ (k : SampledPair). k.last) pairs
 
-new_lasts : (i : Inputs) (more : List Kit) → AllByRecursion (IsNew i) more → lasts_in more ≡ replicate (length more) 0
+new_lasts : (i : Inputs) (more : List SampledPair) → AllByRecursion (IsNew i) more → lasts_in more ≡ replicate (length more) 0
 new_lasts i [] a = refl
 new_lasts i (k ∷ more) a = ap₂ (λ (x : ℕ) (xs : List ℕ). x ∷ xs) (a.0).last (new_lasts i more a.1)
 
 -- how many are new
-many_new : (old more new : List Kit) → new ≡ old ++ more → length (shown_in new) - length (lasts_in old) ≡ length more
+many_new : (old more new : List SampledPair) → new ≡ old ++ more → length (shown_in new) - length (lasts_in old) ≡ length more
 many_new old more new e =
-    let a = length-map new (λ (k : Kit). k.shown) in
-    let b = length-map old (λ (k : Kit). k.last) in
-    let c = ap (λ (l : List Kit). length l) e in
+    let a = length-map new (λ (k : SampledPair). k.shown) in
+    let b = length-map old (λ (k : SampledPair). k.last) in
+    let c = ap (λ (l : List SampledPair). length l) e in
     let d = length-append old more in
     omega arith
 
-pub lasts_more : (i : Inputs) (old new : List Kit) → IsMore i old new → lasts_in new ≡ lasts_with (shown_in new) (lasts_in old)
+pub lasts_more : (i : Inputs) (old new : List SampledPair) → IsMore i old new → lasts_in new ≡ lasts_with (shown_in new) (lasts_in old)
 lasts_more i old new m =
-    ap lasts_in m.is ∙ (map-append (λ (k : Kit). k.last) old m.more ∙ ap (λ l. lasts_in old ++ l) (new_lasts i m.more m.each ∙ ap (λ n. replicate n 0) (sym (many_new old m.more new m.is))))
+    ap lasts_in m.is ∙ (map-append (λ (k : SampledPair). k.last) old m.more ∙ ap (λ l. lasts_in old ++ l) (new_lasts i m.more m.each ∙ ap (λ n. replicate n 0) (sym (many_new old m.more new m.is))))
 
 -- nothing was recorded of them
-pub hists_new : (i : Inputs) (more : List Kit) → AllByRecursion (IsNew i) more → map (λ (k : Kit). k.hist) more ≡ map (λ (s : MetricFocusPair). hist_at i s []) (shown_in more)
+pub hists_new : (i : Inputs) (more : List SampledPair) → AllByRecursion (IsNew i) more → map (λ (k : SampledPair). k.hist) more ≡ map (λ (s : MetricFocusPair). hist_at i s []) (shown_in more)
 hists_new i [] a = refl
 hists_new i (k ∷ more) a = ap₂ (λ (x : Option Histogram) (xs : List (Option Histogram)). x ∷ xs) (a.0).hist (hists_new i more a.1)
 
-pub hists_more : (i : Inputs) (old new : List Kit) (m : IsMore i old new) → map (λ (k : Kit). k.hist) new ≡ map (λ (k : Kit). k.hist) old ++ map (λ (s : MetricFocusPair). hist_at i s []) (shown_in m.more)
+pub hists_more : (i : Inputs) (old new : List SampledPair) (m : IsMore i old new) → map (λ (k : SampledPair). k.hist) new ≡ map (λ (k : SampledPair). k.hist) old ++ map (λ (s : MetricFocusPair). hist_at i s []) (shown_in m.more)
 hists_more i old new m =
-    ap (map (λ (k : Kit). k.hist)) m.is ∙ (map-append (λ (k : Kit). k.hist) old m.more ∙ ap (λ l. map (λ (k : Kit). k.hist) old ++ l) (hists_new i m.more m.each))
+    ap (map (λ (k : SampledPair). k.hist)) m.is ∙ (map-append (λ (k : SampledPair). k.hist) old m.more ∙ ap (λ l. map (λ (k : SampledPair). k.hist) old ++ l) (hists_new i m.more m.each))
 
 -- ---- an admission
 
 -- no work was done
-pub no_admission : (i : Inputs) (later : List CheckedWish) (t : Table) → t.worked ≡ false → AreLive t.machine.state.placer t.kits t.live → IsAfterAdmission i later t t 0
+pub no_admission : (i : Inputs) (later : List CheckedWish) (t : Table) → t.worked ≡ false → AreLive t.machine.state.placer t.pairs t.live → IsAfterAdmission i later t t 0
 unfolding with_admission
 no_admission i later t e live = record {
   looked = omega arith;
   kept = sym (ap (λ b. cond b (record (with_tests i (with_wishes i later (kept_of later t))) { worked = false }) (kept_of later t)) e);
-  kits = none_more i t.kits;
+  pairs = none_more i t.pairs;
   few = omega arith;
   live = live;
   stays = still_first t;
@@ -123,16 +123,16 @@ some_admitted i later n t new e c kept =
 
 -- the wishes were looked at and the nodes taken, and the admission was done
 pub one_admission : (i : Inputs) (later : List CheckedWish) (n : ℕ) (t admitted new : Table) → t.worked ≡ true → IsCount t.time later n
-    → ((ws : List CheckedWish) → kept_of ws admitted ≡ with_tests i (with_all i (take n later) (kept_of ws t))) → IsMore i t.kits admitted.kits → length admitted.kits ≤ length t.kits + length (take n later) + taken_at_once
-    → IsStill t admitted → AreLive admitted.machine.state.placer admitted.kits admitted.live → new ≡ record admitted { worked = false } → IsAfterAdmission i later t new n
-one_admission i later n t admitted new worked count kept kits few still live is =
+    → ((ws : List CheckedWish) → kept_of ws admitted ≡ with_tests i (with_all i (take n later) (kept_of ws t))) → IsMore i t.pairs admitted.pairs → length admitted.pairs ≤ length t.pairs + length (take n later) + taken_at_once
+    → IsStill t admitted → AreLive admitted.machine.state.placer admitted.pairs admitted.live → new ≡ record admitted { worked = false } → IsAfterAdmission i later t new n
+one_admission i later n t admitted new worked count kept pairs few still live is =
     let low = count_low t.time later n count in
     let len = take_many n later low in
     let stays : IsStill t (record admitted { worked = false }) = record { same = ap (λ (x : Table). record x { worked = false }) still.same; core = still.core; rules = still.rules } in
     subst (λ (x : Table). IsAfterAdmission i later t x n) (sym is) (record {
       looked = low;
       kept = some_admitted i later n t admitted worked count (kept (drop n later));
-      kits = kits;
+      pairs = pairs;
       few = omega arith;
       live = live;
       stays = stays;

@@ -10,9 +10,9 @@ use Rattle.session_spec.specs.Inputs.{Inputs, by_tick, first_wishes, later_wishe
 use Rattle.session_spec.specs.Opening.{wished, with_all}
 use Rattle.session_spec.specs.Tests.{taken_at_once, with_tests}
 use Rattle.session_spec.specs.States.{SessionState}
-use Rattle.session_kits.specs.declared.kit.Kit.{Kit}
+use Rattle.session_pairs.specs.declared.pair.SampledPair.{SampledPair}
 use Rattle.session.specs.Given.{AreGiven, AreNarrow, IsWishOf}
-use Rattle.session_kits.specs.Kits.{AreLive}
+use Rattle.session_pairs.specs.SampledPairs.{AreLive}
 use Rattle.session.specs.Contenders.{HasCost, first_search}
 use Rattle.rv_mem.specs.Start.{program_of}
 use Rattle.session_spec.specs.Searches.{rules_of}
@@ -91,29 +91,29 @@ module _ (i : Inputs) (t : Table) (e : t ≡ first_table i) where
   pub first_program : t.machine.state.core.program ≡ program_of i.image
   first_program = ap (λ (x : Table). x.machine.state.core.program) e
 
-  pub first_costs : AllByRecursion (HasCost i) t.kits
-  first_costs = subst (λ (x : Table). AllByRecursion (HasCost i) x.kits) (sym e) tt
+  pub first_costs : AllByRecursion (HasCost i) t.pairs
+  first_costs = subst (λ (x : Table). AllByRecursion (HasCost i) x.pairs) (sym e) tt
 
-  pub first_few : AreGiven i → (wishes : List CheckedWish) → wishes ≡ first_wishes i → length t.kits + length wishes + taken_at_once < 2 ^ 31
+  pub first_few : AreGiven i → (wishes : List CheckedWish) → wishes ≡ first_wishes i → length t.pairs + length wishes + taken_at_once < 2 ^ 31
   first_few g wishes w =
-      let none = ap (λ (x : Table). length x.kits) e in
+      let none = ap (λ (x : Table). length x.pairs) e in
       let many = ap (λ (l : List CheckedWish). length l) w in
       let all = all_wishes i in
       let few = g.few_wishes in
       omega arith
 
 -- the wishes were looked at, and the first nodes taken
-pub wished_is : (i : Inputs) (first t : Table) → first ≡ first_table i → AreGiven i → AreNarrow i → ((ws : List CheckedWish) → kept_of ws t ≡ with_tests i (with_all i (first_wishes i) (kept_of ws first))) → IsMore i first.kits t.kits
-    → length t.kits ≤ length first.kits + length (first_wishes i) + taken_at_once → AreLive t.machine.state.placer t.kits t.live → IsStill first t → IsProgram i.image → IsWished i t
+pub wished_is : (i : Inputs) (first t : Table) → first ≡ first_table i → AreGiven i → AreNarrow i → ((ws : List CheckedWish) → kept_of ws t ≡ with_tests i (with_all i (first_wishes i) (kept_of ws first))) → IsMore i first.pairs t.pairs
+    → length t.pairs ≤ length first.pairs + length (first_wishes i) + taken_at_once → AreLive t.machine.state.placer t.pairs t.live → IsStill first t → IsProgram i.image → IsWished i t
 unfolding wished first_search
-wished_is i first t e g narrow kept kits few live still program =
-    let none : first.kits ≡ [] = ap (λ (x : Table). x.kits) e in
-    let l = ap (λ (x : List Kit). length x) none in
+wished_is i first t e g narrow kept pairs few live still program =
+    let none : first.pairs ≡ [] = ap (λ (x : Table). x.pairs) e in
+    let l = ap (λ (x : List SampledPair). length x) none in
     record {
       program = program;
       good = all_good i g narrow;
       kept = kept (later_wishes i) ∙ ap (λ (x : Table). with_tests i (with_all i (first_wishes i) (kept_of (later_wishes i) x))) e;
-      kits = subst (λ (x : List Kit). IsMore i x t.kits) none kits;
+      pairs = subst (λ (x : List SampledPair). IsMore i x t.pairs) none pairs;
       few = omega arith;
       live = live;
       still = subst (λ (x : Table). IsStill x t) e still;

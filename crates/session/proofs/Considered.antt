@@ -10,7 +10,7 @@ use Rattle.instrument.specs.Needs.{Need, need_of}
 use Rattle.session_spec.specs.Inputs.{Inputs}
 use Rattle.session_spec.specs.Admission.{with_wish}
 use Rattle.session_spec.specs.Opening.{with_all}
-use Rattle.session_kits.specs.Kits.{AreLive}
+use Rattle.session_pairs.specs.SampledPairs.{AreLive}
 use Rattle.session.specs.declared.candidate.Candidate.{Candidate}
 use Rattle.session.specs.Candidates.{AreOfWishes}
 use Rattle.session.specs.Outcomes.{IsAdmissionStep}
@@ -30,7 +30,7 @@ pub record Considering (i : Inputs) (wishes : List CheckedWish) (plans : List Pl
   pub left : (needs : List Need) → AreReady (map need_of plans ++ needs) old.machine.ready → AreReady (map need_of (drop place plans) ++ needs) t.machine.ready
 
 pub first : (i : Inputs) (wishes : List CheckedWish) (plans : List Plan) (old : Table) (cs : List (Option Candidate)) → length wishes ≤ old.room → old.machine.state.core.program ≡ program_of i.image
-    → AreOfWishes i wishes plans cs → AreReady (map need_of plans) old.machine.ready → AreLive old.machine.state.placer old.kits old.live → Considering i wishes plans old 0 old cs
+    → AreOfWishes i wishes plans cs → AreReady (map need_of plans) old.machine.ready → AreLive old.machine.state.placer old.pairs old.live → Considering i wishes plans old 0 old cs
 first i wishes plans old cs some program each ready live = record {
   kept = λ ws. refl;
   steps = no_steps i old live;

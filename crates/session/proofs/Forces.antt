@@ -11,16 +11,16 @@ use Rattle.instrument.proofs.Numbers.{admissions_tell, admits}
 use Rattle.session_spec.specs.Inputs.{Inputs}
 use Rattle.session_spec.specs.Tests.{in_force, is_gone, words_of}
 use Rattle.session_spec.specs.Rosters.{AreBelow, AreNumbered}
-use Rattle.session_kits.specs.declared.kit.Kit.{Kit}
-use Rattle.session_kits.specs.Kits.{AreLiveFrom, is_gone_test}
-use Rattle.session_kits.proofs.Dropped.{shown_in}
-use Rattle.session_kits.proofs.Sums.{force_live, sum_at}
+use Rattle.session_pairs.specs.declared.pair.SampledPair.{SampledPair}
+use Rattle.session_pairs.specs.SampledPairs.{AreLiveFrom, is_gone_test}
+use Rattle.session_pairs.proofs.Dropped.{shown_in}
+use Rattle.session_pairs.proofs.Sums.{force_live, sum_at}
 use Rattle.session.specs.Contenders.{HasCost, counted, force_in}
 use Rattle.session.specs.Tables.{IsMore, IsNew}
 
 -- ---- by the definitions
 
-counted_one : (p : Placements) (i : Inputs) (k : Kit) → HasCost i k → cond (is_gone (state_of p k.shown.instrument.n)) 0 k.cost ≡ cond (is_some k.shown.node && not (is_gone (state_of p k.shown.instrument.n))) (words_of i k.shown) 0
+counted_one : (p : Placements) (i : Inputs) (k : SampledPair) → HasCost i k → cond (is_gone (state_of p k.shown.instrument.n)) 0 k.cost ≡ cond (is_some k.shown.node && not (is_gone (state_of p k.shown.instrument.n))) (words_of i k.shown) 0
 counted_one p i k h = ap (λ c. cond (is_gone (state_of p k.shown.instrument.n)) 0 c) h.0 ∙ by k.shown.node (is_gone (state_of p k.shown.instrument.n))
   where
     by : (o : Option ℕ) (b : Bool) → cond b 0 (cond (is_some o) (words_of i k.shown) 0) ≡ cond (is_some o && not b) (words_of i k.shown) 0
@@ -29,44 +29,44 @@ counted_one p i k h = ap (λ c. cond (is_gone (state_of p k.shown.instrument.n))
     by (Some n) true = refl
     by (Some n) false = refl
 
-pub force_is : (i : Inputs) (p : Placements) (kits : List Kit) → AllByRecursion (HasCost i) kits → force_in p kits ≡ in_force i p (shown_in kits)
+pub force_is : (i : Inputs) (p : Placements) (pairs : List SampledPair) → AllByRecursion (HasCost i) pairs → force_in p pairs ≡ in_force i p (shown_in pairs)
 force_is i p [] a = refl
-force_is i p (k ∷ kits) a = ap₂ (λ (x y : ℕ). x + y) (counted_one p i k a.0) (force_is i p kits a.1)
+force_is i p (k ∷ pairs) a = ap₂ (λ (x y : ℕ). x + y) (counted_one p i k a.0) (force_is i p pairs a.1)
 
 -- ---- costs of 32 bits
 
-pub low_costs : (i : Inputs) (kits : List Kit) → AllByRecursion (HasCost i) kits → AllByRecursion (λ (k : Kit). k.cost < 2 ^ 32) kits
+pub low_costs : (i : Inputs) (pairs : List SampledPair) → AllByRecursion (HasCost i) pairs → AllByRecursion (λ (k : SampledPair). k.cost < 2 ^ 32) pairs
 low_costs i [] a = tt
-low_costs i (k ∷ kits) a = (a.0.1, low_costs i kits a.1)
+low_costs i (k ∷ pairs) a = (a.0.1, low_costs i pairs a.1)
 
-new_costs : (i : Inputs) (more : List Kit) → AllByRecursion (IsNew i) more → AllByRecursion (HasCost i) more
+new_costs : (i : Inputs) (more : List SampledPair) → AllByRecursion (IsNew i) more → AllByRecursion (HasCost i) more
 new_costs i [] a = tt
 new_costs i (k ∷ more) a = (((a.0).cost, (a.0).low), new_costs i more a.1)
 
-both_costs : (i : Inputs) (old more : List Kit) → AllByRecursion (HasCost i) old → AllByRecursion (HasCost i) more → AllByRecursion (HasCost i) (old ++ more)
+both_costs : (i : Inputs) (old more : List SampledPair) → AllByRecursion (HasCost i) old → AllByRecursion (HasCost i) more → AllByRecursion (HasCost i) (old ++ more)
 both_costs i [] more a b = b
 both_costs i (k ∷ old) more a b = (a.0, both_costs i old more a.1 b)
 
-pub more_costs : (i : Inputs) (old new : List Kit) → AllByRecursion (HasCost i) old → IsMore i old new → AllByRecursion (HasCost i) new
+pub more_costs : (i : Inputs) (old new : List SampledPair) → AllByRecursion (HasCost i) old → IsMore i old new → AllByRecursion (HasCost i) new
 more_costs i old new a m = subst (AllByRecursion (HasCost i)) (sym m.is) (both_costs i old m.more a (new_costs i m.more m.each))
 
-force_most : (p : Placements) (kits : List Kit) → AllByRecursion (λ (k : Kit). k.cost < 2 ^ 32) kits → force_in p kits ≤ 2 ^ 32 * length kits
+force_most : (p : Placements) (pairs : List SampledPair) → AllByRecursion (λ (k : SampledPair). k.cost < 2 ^ 32) pairs → force_in p pairs ≤ 2 ^ 32 * length pairs
 force_most p [] a = omega arith
-force_most p (k ∷ kits) a = by (is_gone (state_of p k.shown.instrument.n)) (force_most p kits a.1)
+force_most p (k ∷ pairs) a = by (is_gone (state_of p k.shown.instrument.n)) (force_most p pairs a.1)
   where
-    by : (b : Bool) → force_in p kits ≤ 2 ^ 32 * length kits → cond b 0 k.cost + force_in p kits ≤ 2 ^ 32 * suc (length kits)
+    by : (b : Bool) → force_in p pairs ≤ 2 ^ 32 * length pairs → cond b 0 k.cost + force_in p pairs ≤ 2 ^ 32 * suc (length pairs)
     by true m = omega arith
     by false m = let l = a.0 in omega arith
 
-pub force_low : (p : Placements) (kits : List Kit) → AllByRecursion (λ (k : Kit). k.cost < 2 ^ 32) kits → length kits < 2 ^ 31 → force_in p kits < 2 ^ 63
-force_low p kits a l = let m = force_most p kits a in omega arith
+pub force_low : (p : Placements) (pairs : List SampledPair) → AllByRecursion (λ (k : SampledPair). k.cost < 2 ^ 32) pairs → length pairs < 2 ^ 31 → force_in p pairs < 2 ^ 63
+force_low p pairs a l = let m = force_most p pairs a in omega arith
 
 -- ---- over the live places
 
-pub live_force : (p : Placements) (kits : List Kit) (live : List ℕ) → AreLiveFrom 0 p kits live → sum_at (counted p) kits live ≡ force_in p kits
-live_force p kits live a = force_live p (counted p) none (force_in p) refl (λ k ks. refl) kits live a
+pub live_force : (p : Placements) (pairs : List SampledPair) (live : List ℕ) → AreLiveFrom 0 p pairs live → sum_at (counted p) pairs live ≡ force_in p pairs
+live_force p pairs live a = force_live p (counted p) none (force_in p) refl (λ k ks. refl) pairs live a
   where
-    none : (k : Kit) → is_gone_test p k ≡ true → counted p k ≡ 0
+    none : (k : SampledPair) → is_gone_test p k ≡ true → counted p k ≡ 0
     none k g = cond-true (is_gone (state_of p k.shown.instrument.n)) 0 k.cost (and_parts (is_some k.shown.node) (is_gone (state_of p k.shown.instrument.n)) g).1
 
 -- ---- an instrument more
@@ -82,18 +82,18 @@ lower_stay p plan cost q e n l =
     ap (λ (is : List Instrument). state_in (find (λ (j : Instrument). j.no == n) is)) t.instruments
     ∙ ap state_in (find_past n p.instruments t.i (ne_eqb _ _ (λ w. omega (arith, t.no))))
 
-force_same : (p q : Placements) (kits : List Kit) → ((n : ℕ) → n < p.count → state_of q n ≡ state_of p n) → AreBelow p.count (shown_in kits) → force_in q kits ≡ force_in p kits
+force_same : (p q : Placements) (pairs : List SampledPair) → ((n : ℕ) → n < p.count → state_of q n ≡ state_of p n) → AreBelow p.count (shown_in pairs) → force_in q pairs ≡ force_in p pairs
 force_same p q [] s b = refl
-force_same p q (k ∷ kits) s b = ap₂ (λ (x : State) (y : ℕ). cond (is_gone x) 0 k.cost + y) (s k.shown.instrument.n b.0) (force_same p q kits s b.1)
+force_same p q (k ∷ pairs) s b = ap₂ (λ (x : State) (y : ℕ). cond (is_gone x) 0 k.cost + y) (s k.shown.instrument.n b.0) (force_same p q pairs s b.1)
 
-force_push : (q : Placements) (kits : List Kit) (k : Kit) → force_in q (kits ++ k ∷ []) ≡ force_in q kits + counted q k
+force_push : (q : Placements) (pairs : List SampledPair) (k : SampledPair) → force_in q (pairs ++ k ∷ []) ≡ force_in q pairs + counted q k
 force_push q [] k = let none : force_in q [] ≡ 0 = refl in omega arith
-force_push q (j ∷ kits) k = let ih = force_push q kits k in omega arith
+force_push q (j ∷ pairs) k = let ih = force_push q pairs k in omega arith
 
 -- its cost is added
-pub force_more : (p : Placements) (plan : Plan) (cost : Option ℕ) (q : Placements) (kits : List Kit) (k : Kit) → AreNumbered p → AreBelow p.count (shown_in kits) → admission p plan cost ≡ Ok q → k.shown.instrument.n ≡ p.count
-    → force_in q (kits ++ k ∷ []) ≡ force_in p kits + k.cost
-force_more p plan cost q kits k r b e n =
+pub force_more : (p : Placements) (plan : Plan) (cost : Option ℕ) (q : Placements) (pairs : List SampledPair) (k : SampledPair) → AreNumbered p → AreBelow p.count (shown_in pairs) → admission p plan cost ≡ Ok q → k.shown.instrument.n ≡ p.count
+    → force_in q (pairs ++ k ∷ []) ≡ force_in p pairs + k.cost
+force_more p plan cost q pairs k r b e n =
     let placing = ap (state_of q) n ∙ (admissions_tell p plan cost q r.numbered e).state in
-    force_push q kits k
-    ∙ ap₂ (λ (x y : ℕ). x + y) (force_same p q kits (lower_stay p plan cost q e) b) (ap (λ s. cond (is_gone s) 0 k.cost) placing)
+    force_push q pairs k
+    ∙ ap₂ (λ (x y : ℕ). x + y) (force_same p q pairs (lower_stay p plan cost q e) b) (ap (λ s. cond (is_gone s) 0 k.cost) placing)

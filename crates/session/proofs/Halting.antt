@@ -24,10 +24,10 @@ use Rattle.session_spec.proofs.Going.{program_is}
 use Rattle.session_spec.specs.Work.{Halted, IsAllowed, final_state, after_quanta}
 use Rattle.session_spec.specs.Reads.{ticks_by}
 use Rattle.session_spec.proofs.Runs.{is_run}
-use Rattle.session_kits.specs.declared.kit.Kit.{Kit}
-use Rattle.session.specs.Kept.{IsTableAfter, IsSoundKit}
-use Rattle.session_kits.specs.Kits.{HasFew, HasHarts}
-use Rattle.session.proofs.SoundKits.{more_sound}
+use Rattle.session_pairs.specs.declared.pair.SampledPair.{SampledPair}
+use Rattle.session.specs.Kept.{IsTableAfter, IsSoundPair}
+use Rattle.session_pairs.specs.SampledPairs.{HasFew, HasHarts}
+use Rattle.session.proofs.SoundPairs.{more_sound}
 use Rattle.session.specs.Sessions.{state_at}
 use Rattle.session.specs.Contenders.{HasCost}
 use Rattle.session.specs.Tables.{CanSample, IsAfterAdmission, Table, kept_of, lasts_in}
@@ -58,31 +58,31 @@ not_halted i quanta over h going e l (inr many) = absurd (omega arith)
 -- no hart has more ticks than the budget
 pub budget_kept : (i : Inputs) (quanta : List Quantum) (over : Bool) (later : List CheckedWish) (t : Table) → IsTableAfter i quanta over later t → KeepsBudget t.machine.state.core
 budget_kept i quanta over later t k =
-    subst (λ (c : Core). KeepsBudget c) (sym (core_is i quanta over later t k)) (is_run i (state_at i quanta over) (lasts_in t.kits) k.state.sound).budget
+    subst (λ (c : Core). KeepsBudget c) (sym (core_is i quanta over later t k)) (is_run i (state_at i quanta over) (lasts_in t.pairs) k.state.sound).budget
 
 -- ---- what a call asks of a desk that is kept
 
 pub program_kept : (i : Inputs) (quanta : List Quantum) (over : Bool) (later : List CheckedWish) (t : Table) → IsTableAfter i quanta over later t → t.machine.state.core.program ≡ program_of i.image
 program_kept i quanta over later t k =
     let tied = k.state.sound.tied in
-    ap (λ (c : Core). c.program) (core_is i quanta over later t k) ∙ program_is i (state_at i quanta over).kept.machine (state_at i quanta over).owns (state_at i quanta over).kept.shown (lasts_in t.kits) tied
+    ap (λ (c : Core). c.program) (core_is i quanta over later t k) ∙ program_is i (state_at i quanta over).kept.machine (state_at i quanta over).owns (state_at i quanta over).kept.shown (lasts_in t.pairs) tied
 
-pub fit_harts : (i : Inputs) (n m : ℕ) (kits : List Kit) → i.settings.harts ≡ m → AllByRecursion (IsSoundKit i n) kits → AllByRecursion (HasHarts m) kits
+pub fit_harts : (i : Inputs) (n m : ℕ) (pairs : List SampledPair) → i.settings.harts ≡ m → AllByRecursion (IsSoundPair i n) pairs → AllByRecursion (HasHarts m) pairs
 fit_harts i n m [] e a = tt
-fit_harts i n m (k ∷ kits) e a = (subst (λ h. k.first + k.count ≤ h) e (a.0).within, fit_harts i n m kits e a.1)
+fit_harts i n m (k ∷ pairs) e a = (subst (λ h. k.first + k.count ≤ h) e (a.0).within, fit_harts i n m pairs e a.1)
 
-fit_few : (i : Inputs) (n : ℕ) (kits : List Kit) → n < 2 ^ 32 → AllByRecursion (IsSoundKit i n) kits → AllByRecursion HasFew kits
+fit_few : (i : Inputs) (n : ℕ) (pairs : List SampledPair) → n < 2 ^ 32 → AllByRecursion (IsSoundPair i n) pairs → AllByRecursion HasFew pairs
 fit_few i n [] l a = tt
-fit_few i n (k ∷ kits) l a = (by k.hist (a.0).few, fit_few i n kits l a.1)
+fit_few i n (k ∷ pairs) l a = (by k.hist (a.0).few, fit_few i n pairs l a.1)
   where
     by : (o : Option Histogram) → IfSome o (λ h. h.count ≤ n) → IfSome o (λ h. h.count < 2 ^ 32)
     by None few = tt
     by (Some h) few = omega arith
 
 -- a pair costs what its tests cost
-pub costs : (i : Inputs) (n : ℕ) (kits : List Kit) → AllByRecursion (IsSoundKit i n) kits → AllByRecursion (HasCost i) kits
+pub costs : (i : Inputs) (n : ℕ) (pairs : List SampledPair) → AllByRecursion (IsSoundPair i n) pairs → AllByRecursion (HasCost i) pairs
 costs i n [] a = tt
-costs i n (k ∷ kits) a = ((a.0).cost, costs i n kits a.1)
+costs i n (k ∷ pairs) a = ((a.0).cost, costs i n pairs a.1)
 
 -- ---- what a sample asks
 
@@ -100,7 +100,7 @@ module _ (i : Inputs) (quanta : List Quantum) (over : Bool) (later : List Checke
   ticks_are : ticks_in t.machine.state.core.harts ≡ t.time
   ticks_are =
       let first = start_core i.image i.settings.harts i.settings.budget in
-      let ran = is_run i (state_at i quanta over) (lasts_in t.kits) k.state.sound in
+      let ran = is_run i (state_at i quanta over) (lasts_in t.pairs) k.state.sound in
       let none : ticks_in first.harts ≡ 0 = first_ticks i.settings.harts 0 i.settings.harts i.image in
       let on = time_goes_on ran.events first in
       let core = ap (λ (c : Core). ticks_in c.harts) (core_is i quanta over later t k ∙ ran.core) in
@@ -119,8 +119,8 @@ module _ (i : Inputs) (quanta : List Quantum) (over : Bool) (later : List Checke
       record {
         places = k.places ∙ sym same;
         marks = marks_many ∙ sym same;
-        harts = fit_harts i t.samples (length t.machine.state.core.harts) t.kits (sym same) k.kits;
-        few = fit_few i t.samples t.kits (omega arith) k.kits;
+        harts = fit_harts i t.samples (length t.machine.state.core.harts) t.pairs (sym same) k.pairs;
+        few = fit_few i t.samples t.pairs (omega arith) k.pairs;
         number = omega arith;
         samples = omega arith;
         most = omega arith;
@@ -136,7 +136,7 @@ module _ (i : Inputs) (quanta : List Quantum) (over : Bool) (later : List Checke
       let samples = k.fewer going in
       let c = can_sample i quanta over later t k (omega arith) most_quanta in
       let same : length admitted.machine.state.core.harts ≡ length t.machine.state.core.harts = ap (λ (x : Core). length x.harts) (a.stays).core in
-      let sound = subst (λ m. AllByRecursion (IsSoundKit i m) admitted.kits) (sym (ap (λ (x : Table). x.samples) (a.stays).same)) (more_sound i t.samples t.kits admitted.kits k.kits a.kits) in
+      let sound = subst (λ m. AllByRecursion (IsSoundPair i m) admitted.pairs) (sym (ap (λ (x : Table). x.samples) (a.stays).same)) (more_sound i t.samples t.pairs admitted.pairs k.pairs a.pairs) in
       let same_samples = ap (λ (x : Table). x.samples) (a.stays).same in
       let same_time = ap (λ (x : Table). x.time) (a.stays).same in
       let same_ticks = ap (λ (x : Core). ticks_in x.harts) (a.stays).core in
@@ -149,8 +149,8 @@ module _ (i : Inputs) (quanta : List Quantum) (over : Bool) (later : List Checke
       record {
         places = ap (λ (x : Table). x.places) (a.stays).same ∙ (c.places ∙ sym same);
         marks = ap (λ (x : Table). length x.marks) (a.stays).same ∙ (c.marks ∙ sym same);
-        harts = fit_harts i admitted.samples (length admitted.machine.state.core.harts) admitted.kits (sym (same ∙ k.harts)) sound;
-        few = fit_few i admitted.samples admitted.kits (omega arith) sound;
+        harts = fit_harts i admitted.samples (length admitted.machine.state.core.harts) admitted.pairs (sym (same ∙ k.harts)) sound;
+        few = fit_few i admitted.samples admitted.pairs (omega arith) sound;
         number = omega arith;
         samples = omega arith;
         most = subst (λ n. n ≤ MAX_HARTS) (sym same) c.most;

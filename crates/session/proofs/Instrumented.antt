@@ -15,20 +15,20 @@ use Rattle.instrumented.specs.Instrumented.{Instrumented, after_act, in_scene, s
 use Rattle.instrumented.proofs.Acts.{done_is}
 use Rattle.session_spec.specs.Inputs.{Inputs, planned}
 use Rattle.session_spec.specs.Tests.{words_by, words_of}
-use Rattle.session_kits.specs.declared.kit.Kit.{Kit}
-use Rattle.session_kits.specs.Kits.{AreLive}
-use Rattle.session_kits.proofs.Live.{live_done, live_put}
+use Rattle.session_pairs.specs.declared.pair.SampledPair.{SampledPair}
+use Rattle.session_pairs.specs.SampledPairs.{AreLive}
+use Rattle.session_pairs.proofs.Live.{live_done, live_put}
 use Rattle.session.specs.declared.candidate.Candidate.{Candidate}
-use Rattle.session.specs.Candidates.{IsCandidate, IsPlanOrFault, IsShort, new_kit}
+use Rattle.session.specs.Candidates.{IsCandidate, IsPlanOrFault, IsShort, new_pair}
 use Rattle.session.specs.Outcomes.{IsAdmissionStep}
 use Rattle.session.specs.Tables.{IsMore, IsNew, IsStill, Table}
 use Rattle.session.proofs.Steps.{none_more, one_more}
 
 -- ---- its pair
 
-pub kit_new : (i : Inputs) (plan : Plan) (c : Candidate) (number : InstrumentNo) → IsCandidate i plan c → c.fault ≡ None → IsNew i (new_kit i plan c number)
+pub pair_new : (i : Inputs) (plan : Plan) (c : Candidate) (number : InstrumentNo) → IsCandidate i plan c → c.fault ≡ None → IsNew i (new_pair i plan c number)
 unfolding words_of
-kit_new i plan c number k none =
+pair_new i plan c number k none =
     let p : (planned i c.metric c.focus ≡ Ok plan) × IsShort i plan = subst (λ o. IsPlanOrFault i c.metric c.focus o plan) none k.planned in
     record {
       last = refl;
@@ -44,28 +44,28 @@ pub refused_same : (m : Instrumented) (plan : Plan) (limit : Option ℕ) (refuse
 refused_same m plan limit refused e = done_is (Admits plan limit) m ∙ ap (λ r. in_scene (admits plan r (scene_of m)).scene) e
 
 -- with an instrument more
-pub live_more : (m new : Instrumented) (plan : Plan) (limit : Option ℕ) (kits : List Kit) (live : List ℕ) (k : Kit) → AreLive m.placer kits live → admission m.placer plan limit ≡ Ok new.placer → k.shown.instrument.n ≡ m.placer.count
-    → new ≡ after_act (Admits plan limit) m → AreLive new.placer (kits ++ k ∷ []) (live ++ length kits ∷ [])
-live_more m new plan limit kits live k a e n is =
-    let later : AreLive new.placer kits live = subst (λ (x : Instrumented). AreLive x.placer kits live) (sym is) (live_done m kits live a (Admits plan limit) tt) in
-    live_put new.placer kits live k later (omega (arith, n, ((admits_one m.placer plan limit new.placer e).0).count))
+pub live_more : (m new : Instrumented) (plan : Plan) (limit : Option ℕ) (pairs : List SampledPair) (live : List ℕ) (k : SampledPair) → AreLive m.placer pairs live → admission m.placer plan limit ≡ Ok new.placer → k.shown.instrument.n ≡ m.placer.count
+    → new ≡ after_act (Admits plan limit) m → AreLive new.placer (pairs ++ k ∷ []) (live ++ length pairs ∷ [])
+live_more m new plan limit pairs live k a e n is =
+    let later : AreLive new.placer pairs live = subst (λ (x : Instrumented). AreLive x.placer pairs live) (sym is) (live_done m pairs live a (Admits plan limit) tt) in
+    live_put new.placer pairs live k later (omega (arith, n, ((admits_one m.placer plan limit new.placer e).0).count))
 
 -- ---- a step
 
 -- what the step leaves of the table
-still_of : (old new : Table) → new ≡ record old { machine = new.machine; kits = new.kits; live = new.live; room = new.room } → new.machine.state.core ≡ old.machine.state.core → IsStill old new
+still_of : (old new : Table) → new ≡ record old { machine = new.machine; pairs = new.pairs; live = new.live; room = new.room } → new.machine.state.core ≡ old.machine.state.core → IsStill old new
 still_of old new e core =
-    let g : Table → Table = λ x. record old { machine = new.machine; refused = x.refused; kits = new.kits; live = new.live; search = x.search; room = new.room; worked = x.worked } in
+    let g : Table → Table = λ x. record old { machine = new.machine; refused = x.refused; pairs = new.pairs; live = new.live; search = x.search; room = new.room; worked = x.worked } in
     record { same = e ∙ ap g (sym e); core = core; rules = ap (λ (x : Table). x.search.rules) e }
 
 -- there is one pair more
-pub step_more : (i : Inputs) (plan : Plan) (k : Kit) (view old new : Table) → view ≡ old → IsNew i k → new.kits ≡ view.kits ++ k ∷ [] → view.room ≤ new.room + 1 → new.machine.ready ≡ without (need_of plan) view.machine.ready
-    → AreLive new.machine.state.placer new.kits new.live → new ≡ record view { machine = new.machine; kits = new.kits; live = new.live; room = new.room } → new.machine.state.core ≡ view.machine.state.core → IsAdmissionStep i plan old new
-step_more i plan k view old new is n kits room ready live e core =
+pub step_more : (i : Inputs) (plan : Plan) (k : SampledPair) (view old new : Table) → view ≡ old → IsNew i k → new.pairs ≡ view.pairs ++ k ∷ [] → view.room ≤ new.room + 1 → new.machine.ready ≡ without (need_of plan) view.machine.ready
+    → AreLive new.machine.state.placer new.pairs new.live → new ≡ record view { machine = new.machine; pairs = new.pairs; live = new.live; room = new.room } → new.machine.state.core ≡ view.machine.state.core → IsAdmissionStep i plan old new
+step_more i plan k view old new is n pairs room ready live e core =
     subst (λ (x : Table). IsAdmissionStep i plan x new) is
     (record {
-      kits = subst (IsMore i view.kits) (sym kits) (one_more i view.kits k n);
-      few = omega (arith, ap (λ (l : List Kit). length l) kits, length-append view.kits (k ∷ []));
+      pairs = subst (IsMore i view.pairs) (sym pairs) (one_more i view.pairs k n);
+      few = omega (arith, ap (λ (l : List SampledPair). length l) pairs, length-append view.pairs (k ∷ []));
       room = room;
       ready = inr ready;
       live = live;
@@ -73,13 +73,13 @@ step_more i plan k view old new is n kits room ready live e core =
     })
 
 -- there are the same pairs
-pub step_same : (i : Inputs) (plan : Plan) (view old new : Table) → view ≡ old → (new.machine.ready ≡ view.machine.ready) ⊎ (new.machine.ready ≡ without (need_of plan) view.machine.ready) → AreLive new.machine.state.placer view.kits view.live
+pub step_same : (i : Inputs) (plan : Plan) (view old new : Table) → view ≡ old → (new.machine.ready ≡ view.machine.ready) ⊎ (new.machine.ready ≡ without (need_of plan) view.machine.ready) → AreLive new.machine.state.placer view.pairs view.live
     → new ≡ record view { machine = new.machine } → new.machine.state.core ≡ view.machine.state.core → IsAdmissionStep i plan old new
 step_same i plan view old new is ready live e core =
     subst (λ (x : Table). IsAdmissionStep i plan x new) is
     (subst (IsAdmissionStep i plan view) (sym e)
     (record {
-      kits = none_more i view.kits;
+      pairs = none_more i view.pairs;
       few = omega arith;
       room = omega arith;
       ready = ready;

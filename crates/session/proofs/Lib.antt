@@ -17,7 +17,7 @@ pub mod Fits
 pub mod ByTick
 pub mod Reported
 pub mod Sampling
-pub mod SoundKits
+pub mod SoundPairs
 pub mod Tabled
 pub mod Quanta
 pub mod Halting

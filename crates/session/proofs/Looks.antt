@@ -15,7 +15,7 @@ use Rattle.session_spec.specs.declared.data.MetricFocusPair.{MetricFocusPair}
 use Rattle.session_spec.proofs.Wishing.{stands_now}
 use Rattle.session_spec.specs.Inputs.{Inputs}
 use Rattle.session_spec.specs.States.{SessionState}
-use Rattle.session_kits.specs.declared.kit.Kit.{Kit}
+use Rattle.session_pairs.specs.declared.pair.SampledPair.{SampledPair}
 use Rattle.session.specs.Tables.{Table, kept_of}
 
 -- ---- whether a pair is shown
@@ -30,36 +30,36 @@ module _ (w : CheckedWish) (ws : List CheckedWish) (t : Table) where
   abbrev k : SessionState
   k = kept_of ws t
 
-  abbrev found : Option Kit
-  found = find (λ (x : Kit). shows t.machine.state.placer w x.shown) t.kits
+  abbrev found : Option SampledPair
+  found = find (λ (x : SampledPair). shows t.machine.state.placer w x.shown) t.pairs
 
-  now_is : shown_now k w ≡ option_map (λ (x : Kit). x.shown) found
-  now_is = sym (find_map (λ (x : Kit). x.shown) (shows t.machine.state.placer w) t.kits)
+  now_is : shown_now k w ≡ option_map (λ (x : SampledPair). x.shown) found
+  now_is = sym (find_map (λ (x : SampledPair). x.shown) (shows t.machine.state.placer w) t.pairs)
 
-  pub none_found : None ≡ option_map (λ (x : Kit). x.shown.instrument) found → shown_now k w ≡ None
+  pub none_found : None ≡ option_map (λ (x : SampledPair). x.shown.instrument) found → shown_now k w ≡ None
   none_found r = now_is ∙ by found r
     where
-      by : (o : Option Kit) → None ≡ option_map (λ (x : Kit). x.shown.instrument) o → option_map (λ (x : Kit). x.shown) o ≡ None
+      by : (o : Option SampledPair) → None ≡ option_map (λ (x : SampledPair). x.shown.instrument) o → option_map (λ (x : SampledPair). x.shown) o ≡ None
       by None r = refl
       by (Some x) r = absurd cc
 
-  pub one_found : (number : InstrumentNo) → Some number ≡ option_map (λ (x : Kit). x.shown.instrument) found → IsFound k w number
+  pub one_found : (number : InstrumentNo) → Some number ≡ option_map (λ (x : SampledPair). x.shown.instrument) found → IsFound k w number
   one_found number r = by found refl r
     where
-      by : (o : Option Kit) → found ≡ o → Some number ≡ option_map (λ (x : Kit). x.shown.instrument) o → IsFound k w number
+      by : (o : Option SampledPair) → found ≡ o → Some number ≡ option_map (λ (x : SampledPair). x.shown.instrument) o → IsFound k w number
       by None q r = absurd cc
-      by (Some x) q r = let same : number ≡ x.shown.instrument = cc in record { s = x.shown; is = now_is ∙ ap (option_map (λ (y : Kit). y.shown)) q; number_is = sym same }
+      by (Some x) q r = let same : number ≡ x.shown.instrument = cc in record { s = x.shown; is = now_is ∙ ap (option_map (λ (y : SampledPair). y.shown)) q; number_is = sym same }
 
   -- one that is found is being placed, or armed
-  pub found_stands : (number : InstrumentNo) → Some number ≡ option_map (λ (x : Kit). x.shown.instrument) found → (state_of t.machine.state.placer number.n ≡ Placing) ⊎ (state_of t.machine.state.placer number.n ≡ Armed)
+  pub found_stands : (number : InstrumentNo) → Some number ≡ option_map (λ (x : SampledPair). x.shown.instrument) found → (state_of t.machine.state.placer number.n ≡ Placing) ⊎ (state_of t.machine.state.placer number.n ≡ Armed)
   found_stands number r = by found refl r
     where
-      by : (o : Option Kit) → found ≡ o → Some number ≡ option_map (λ (x : Kit). x.shown.instrument) o → (state_of t.machine.state.placer number.n ≡ Placing) ⊎ (state_of t.machine.state.placer number.n ≡ Armed)
+      by : (o : Option SampledPair) → found ≡ o → Some number ≡ option_map (λ (x : SampledPair). x.shown.instrument) o → (state_of t.machine.state.placer number.n ≡ Placing) ⊎ (state_of t.machine.state.placer number.n ≡ Armed)
       by None q r = absurd cc
       by (Some x) q r =
           let same : number ≡ x.shown.instrument = cc in
           subst (λ (y : InstrumentNo). (state_of t.machine.state.placer y.n ≡ Placing) ⊎ (state_of t.machine.state.placer y.n ≡ Armed)) (sym same)
-          (stands_now t.machine.state.placer w x.shown (find_gives (λ (y : Kit). shows t.machine.state.placer w y.shown) t.kits x q).1)
+          (stands_now t.machine.state.placer w x.shown (find_gives (λ (y : SampledPair). shows t.machine.state.placer w y.shown) t.pairs x q).1)
 
 -- ---- a wish
 

@@ -21,14 +21,14 @@ use Rattle.session_spec.specs.Work.{first_state, after_quanta}
 use Rattle.session_spec.specs.Readings.{lasts_armed, lasts_with}
 use Rattle.session_spec.specs.Reads.{IsSoundState}
 use Rattle.session_spec.proofs.Begins.{first_marks, first_quiet, opened_lasts, opens, picked}
-use Rattle.session_kits.specs.declared.kit.Kit.{Kit}
-use Rattle.session_kits.specs.Kits.{AreLive, HasHarts, kits_armed}
+use Rattle.session_pairs.specs.declared.pair.SampledPair.{SampledPair}
+use Rattle.session_pairs.specs.SampledPairs.{AreLive, HasHarts, pairs_armed}
 use Rattle.session.specs.Given.{AreGiven}
 use Rattle.session.specs.Contenders.{first_search}
-use Rattle.session.specs.Kept.{IsTableAfter, IsSoundKit, IsWished}
+use Rattle.session.specs.Kept.{IsTableAfter, IsSoundPair, IsWished}
 use Rattle.session.specs.Tables.{AreFolded, IsNew, IsTableOf, Table, kept_of, lasts_in, shown_in, table_armed, table_opened}
 use Rattle.session.proofs.Admitted.{lasts_more}
-use Rattle.session.proofs.SoundKits.{all_armed, all_of, armed_many, more_sound}
+use Rattle.session.proofs.SoundPairs.{all_armed, all_of, armed_many, more_sound}
 use Rattle.session.proofs.Halting.{fit_harts}
 use Rattle.session.proofs.Simulated.{armed_is, folded_armed, lasts_all}
 use Rattle.session.proofs.Begun.{all_wishes, later_given}
@@ -55,11 +55,11 @@ module _ (i : Inputs) (t : Table) (w : IsWished i t) where
   pub wished_places : t.places ≡ length t.machine.state.core.harts
   wished_places = same_places ∙ sym wished_harts
 
-  wished_sound : AllByRecursion (IsSoundKit i t.samples) t.kits
-  wished_sound = more_sound i t.samples [] t.kits tt w.kits
+  wished_sound : AllByRecursion (IsSoundPair i t.samples) t.pairs
+  wished_sound = more_sound i t.samples [] t.pairs tt w.pairs
 
-  pub wished_fit : AllByRecursion (HasHarts (length t.machine.state.core.harts)) t.kits
-  wished_fit = fit_harts i t.samples (length t.machine.state.core.harts) t.kits (sym wished_harts) wished_sound
+  pub wished_fit : AllByRecursion (HasHarts (length t.machine.state.core.harts)) t.pairs
+  wished_fit = fit_harts i t.samples (length t.machine.state.core.harts) t.pairs (sym wished_harts) wished_sound
 
   abbrev pub later : List CheckedWish
   later = later_wishes i
@@ -73,32 +73,32 @@ module _ (i : Inputs) (t : Table) (w : IsWished i t) where
   handed_kept = ap (λ (k : SessionState). with_agenda k) w.kept
 
   opened_is : kept_of later (table_armed handed) ≡ opening_state i
-  opened_is = armed_is i later handed (all_of i t.samples t.kits wished_sound) ∙ ap with_arms handed_kept
+  opened_is = armed_is i later handed (all_of i t.samples t.pairs wished_sound) ∙ ap with_arms handed_kept
 
   -- what was read last of each
-  read_is : lasts_in (table_armed handed).kits ≡ opened_lasts i
+  read_is : lasts_in (table_armed handed).pairs ≡ opened_lasts i
   read_is =
-      let shown : shown_in t.kits ≡ (picked i).shown = ap (λ (k : SessionState). k.shown) w.kept in
-      let lasts : lasts_in t.kits ≡ lasts_with (picked i).shown [] = lasts_more i [] t.kits w.kits ∙ ap (λ (s : List MetricFocusPair). lasts_with s []) shown in
-      lasts_all i t.time handed.machine.state t.kits (all_of i t.samples t.kits wished_sound)
-      ∙ (ap (λ (x : SessionState). lasts_armed i x.machine x.shown (lasts_in t.kits)) handed_kept ∙ ap (lasts_armed i (with_agenda (picked i)).machine (with_agenda (picked i)).shown) lasts)
+      let shown : shown_in t.pairs ≡ (picked i).shown = ap (λ (k : SessionState). k.shown) w.kept in
+      let lasts : lasts_in t.pairs ≡ lasts_with (picked i).shown [] = lasts_more i [] t.pairs w.pairs ∙ ap (λ (s : List MetricFocusPair). lasts_with s []) shown in
+      lasts_all i t.time handed.machine.state t.pairs (all_of i t.samples t.pairs wished_sound)
+      ∙ (ap (λ (x : SessionState). lasts_armed i x.machine x.shown (lasts_in t.pairs)) handed_kept ∙ ap (lasts_armed i (with_agenda (picked i)).machine (with_agenda (picked i)).shown) lasts)
 
   -- no pair has a sample
-  none_folded : (kits : List Kit) → AllByRecursion (IsNew i) kits → AreFolded i kits (map {B = List Bin} (λ s. []) (shown_in kits))
+  none_folded : (pairs : List SampledPair) → AllByRecursion (IsNew i) pairs → AreFolded i pairs (map {B = List Bin} (λ s. []) (shown_in pairs))
   none_folded [] a = tt
-  none_folded (k ∷ kits) a = ((a.0).hist, none_folded kits a.1)
+  none_folded (k ∷ pairs) a = ((a.0).hist, none_folded pairs a.1)
 
-  none_left : (time : ℕ) (m : Instrumented) (kits : List Kit) → map {B = List Bin} (λ s. []) (shown_in (kits_armed time m kits)) ≡ map {B = List Bin} (λ s. []) (shown_in kits)
+  none_left : (time : ℕ) (m : Instrumented) (pairs : List SampledPair) → map {B = List Bin} (λ s. []) (shown_in (pairs_armed time m pairs)) ≡ map {B = List Bin} (λ s. []) (shown_in pairs)
   none_left time m [] = refl
-  none_left time m (k ∷ kits) = ap (λ (rs : List (List Bin)). [] ∷ rs) (none_left time (machine_armed m k.shown) kits)
+  none_left time m (k ∷ pairs) = ap (λ (rs : List (List Bin)). [] ∷ rs) (none_left time (machine_armed m k.shown) pairs)
 
-  hists_are : AreFolded i (table_armed handed).kits (first_state i).recorded
+  hists_are : AreFolded i (table_armed handed).pairs (first_state i).recorded
   hists_are =
-      let of = all_of i t.samples t.kits wished_sound in
-      let new : AllByRecursion (IsNew i) t.kits = subst (λ (l : List Kit). AllByRecursion (IsNew i) l) (sym (w.kits).is) (w.kits).each in
-      let none = none_left t.time handed.machine.state t.kits in
-      let all : map {B = List Bin} (λ s. []) (shown_in t.kits) ≡ (first_state i).recorded = sym none ∙ ap (λ (x : SessionState). map {B = List Bin} (λ s. []) x.shown) opened_is in
-      subst (AreFolded i (table_armed handed).kits) all (folded_armed i t.time handed.machine.state t.kits of (map {B = List Bin} (λ s. []) (shown_in t.kits)) (none_folded t.kits new))
+      let of = all_of i t.samples t.pairs wished_sound in
+      let new : AllByRecursion (IsNew i) t.pairs = subst (λ (l : List SampledPair). AllByRecursion (IsNew i) l) (sym (w.pairs).is) (w.pairs).each in
+      let none = none_left t.time handed.machine.state t.pairs in
+      let all : map {B = List Bin} (λ s. []) (shown_in t.pairs) ≡ (first_state i).recorded = sym none ∙ ap (λ (x : SessionState). map {B = List Bin} (λ s. []) x.shown) opened_is in
+      subst (AreFolded i (table_armed handed).pairs) all (folded_armed i t.time handed.machine.state t.pairs of (map {B = List Bin} (λ s. []) (shown_in t.pairs)) (none_folded t.pairs new))
 
   opened_state : IsTableOf i (first_state i) later (table_armed handed)
   opened_state = record {
@@ -109,11 +109,11 @@ module _ (i : Inputs) (t : Table) (w : IsWished i t) where
     sound = subst (IsSoundState i (first_state i)) (sym read_is) (opens i w.program w.good);
   }
 
-  pub opened_kept : AreGiven i → (desk : Table) → desk ≡ table_opened t → length desk.machine.state.core.harts ≡ length t.machine.state.core.harts → AreLive desk.machine.state.placer desk.kits desk.live → IsTableAfter i [] false later desk
+  pub opened_kept : AreGiven i → (desk : Table) → desk ≡ table_opened t → length desk.machine.state.core.harts ≡ length t.machine.state.core.harts → AreLive desk.machine.state.placer desk.pairs desk.live → IsTableAfter i [] false later desk
   unfolding after_quanta first_search
   opened_kept g desk e harts live =
-      let kits : desk.kits ≡ kits_armed t.time handed.machine.state t.kits = ap (λ (x : Table). x.kits) e in
-      let many = ap (λ (l : List Kit). length l) kits ∙ armed_many handed.machine.state t.time t.kits in
+      let pairs : desk.pairs ≡ pairs_armed t.time handed.machine.state t.pairs = ap (λ (x : Table). x.pairs) e in
+      let many = ap (λ (l : List SampledPair). length l) pairs ∙ armed_many handed.machine.state t.time t.pairs in
       let few = w.few in
       let sum = all_wishes i in
       let none : desk.samples ≡ 0 = ap (λ (x : Table). x.samples) e ∙ ap (λ (x : Table). x.samples) (w.still).same in
@@ -128,7 +128,7 @@ module _ (i : Inputs) (t : Table) (w : IsWished i t) where
         allowed = record { each = tt; few = omega arith };
         state = subst (λ (x : Table). IsTableOf i (first_state i) later x) (sym e) opened_state;
         live = live;
-        kits = subst (λ (x : Table). AllByRecursion (IsSoundKit i x.samples) x.kits) (sym e) (all_armed i t.samples handed.machine.state t.time t.kits wished_sound);
+        pairs = subst (λ (x : Table). AllByRecursion (IsSoundPair i x.samples) x.pairs) (sym e) (all_armed i t.samples handed.machine.state t.time t.pairs wished_sound);
         many = omega arith;
         wishes = later_given i g;
         harts = harts ∙ wished_harts;

@@ -13,10 +13,10 @@ use Rattle.session_spec.specs.Inputs.{Inputs}
 use Rattle.session_spec.specs.States.{State}
 use Rattle.session_spec.specs.Work.{AreAllowed, AreAllowedFrom, IsAllowed, final_state, first_state, after_quantum, after_quanta, after_quanta_from}
 use Rattle.session_spec.proofs.RulesStay.{step_rules}
-use Rattle.session_kits.specs.Kits.{AreLive, kit_sampled}
-use Rattle.session.specs.Kept.{IsTableAfter, IsSoundKit}
+use Rattle.session_pairs.specs.SampledPairs.{AreLive, pair_sampled}
+use Rattle.session.specs.Kept.{IsTableAfter, IsSoundPair}
 use Rattle.session.specs.Tables.{IsAfterAdmission, IsTableOf, Table, table_begun, table_closed, table_ended, table_freed, table_last, table_quiet, table_sampled, table_tended, table_worked}
-use Rattle.session.proofs.SoundKits.{all_armed, all_sampled, armed_many, more_sound}
+use Rattle.session.proofs.SoundPairs.{all_armed, all_sampled, armed_many, more_sound}
 use Rattle.session.proofs.Tabled.{admitted_table, closed_table, tended_table}
 
 -- ---- lists of quanta
@@ -54,13 +54,13 @@ drop_many (suc n) (v ∷ ws) l = let e = drop_many n ws (omega arith) in omega a
 
 -- samples, pairs and the search after a quantum
 record Behind (i : Inputs) (old new : Table) : Type 0 where
-  kits : AllByRecursion (IsSoundKit i new.samples) new.kits
-  many : length new.kits ≡ length old.kits
+  pairs : AllByRecursion (IsSoundPair i new.samples) new.pairs
+  many : length new.pairs ≡ length old.pairs
   samples : new.samples ≤ old.samples + 1
   places : new.places ≡ old.places
   rules : new.search.rules ≡ old.search.rules
 
-behind : (i : Inputs) (h n : ℕ) (t : Table) → AllByRecursion (IsSoundKit i t.samples) t.kits → Behind i t (table_tended i.settings.width h n t)
+behind : (i : Inputs) (h n : ℕ) (t : Table) → AllByRecursion (IsSoundPair i t.samples) t.pairs → Behind i t (table_tended i.settings.width h n t)
 behind i h n t a = by (nat_le (table_begun h n t).due (table_begun h n t).time)
   where
     by : (b : Bool) → Behind i t (cond b (table_worked i.settings.width (table_begun h n t)) (table_begun h n t))
@@ -68,29 +68,29 @@ behind i h n t a = by (nat_le (table_begun h n t).due (table_begun h n t).time)
         let q = table_quiet (table_begun h n t) in
         let s = table_sampled q in
         let f = table_freed s in
-        let sampled = all_sampled i t.samples q.machine.state q.time t.kits a in
+        let sampled = all_sampled i t.samples q.machine.state q.time t.pairs a in
         record {
-          kits = all_armed i (t.samples + 1) f.machine.state f.time s.kits sampled;
-          many = armed_many f.machine.state f.time s.kits ∙ length-map t.kits (kit_sampled q.machine.state q.time);
+          pairs = all_armed i (t.samples + 1) f.machine.state f.time s.pairs sampled;
+          many = armed_many f.machine.state f.time s.pairs ∙ length-map t.pairs (pair_sampled q.machine.state q.time);
           samples = omega arith;
           places = refl;
           rules = step_rules f.time f.tests t.search;
         }
-    by false = record { kits = a; many = refl; samples = omega arith; places = refl; rules = refl }
+    by false = record { pairs = a; many = refl; samples = omega arith; places = refl; rules = refl }
 
 pub quantum_kept : (i : Inputs) (quanta : List Quantum) (later : List CheckedWish) (t admitted new : Table) (looked : ℕ) (q : Quantum) → IsTableAfter i quanta false later t → length quanta < MAX_QUANTA
     → IsAfterAdmission i later t admitted looked → new ≡ table_tended i.settings.width q.hart q.turns admitted → length new.machine.state.core.harts ≡ length admitted.machine.state.core.harts → new.time < admitted.time + 2 ^ 33
-    → new.idle ≤ admitted.idle + q.turns → new.last < new.due → AreLive new.machine.state.placer new.kits new.live → IsAllowed i (after_quanta i quanta).kept q → IsTableAfter i (quanta ++ q ∷ []) false (drop looked later) new
+    → new.idle ≤ admitted.idle + q.turns → new.last < new.due → AreLive new.machine.state.placer new.pairs new.live → IsAllowed i (after_quanta i quanta).kept q → IsTableAfter i (quanta ++ q ∷ []) false (drop looked later) new
 quantum_kept i quanta later t admitted new looked q k few a is harts time idle soon live allowed =
     let stays = ap (λ (x : Table). x.samples) (a.stays).same in
-    let kits : AllByRecursion (IsSoundKit i admitted.samples) admitted.kits = subst (λ m. AllByRecursion (IsSoundKit i m) admitted.kits) (sym stays) (more_sound i t.samples t.kits admitted.kits k.kits a.kits) in
+    let pairs : AllByRecursion (IsSoundPair i admitted.samples) admitted.pairs = subst (λ m. AllByRecursion (IsSoundPair i m) admitted.pairs) (sym stays) (more_sound i t.samples t.pairs admitted.pairs k.pairs a.pairs) in
     let settings = k.given.settings in
     let low = settings.budget.1 in
     let some : 1 ≤ i.settings.bins = let bins = settings.bins.0 in omega arith in
-    let first = admitted_table i later (drop looked later) (after_quanta i quanta) t admitted k.state k.good a.kept a.kits (ap (λ (x : Table). x.latest) (a.stays).same) (ap (λ (x : Table). x.marks) (a.stays).same) in
-    let after = tended_table i low some (drop looked later) (after_quanta i quanta) admitted first kits q.hart q.turns in
-    let b = behind i q.hart q.turns admitted kits in
-    let is_many = ap (λ (x : Table). length x.kits) is in
+    let first = admitted_table i later (drop looked later) (after_quanta i quanta) t admitted k.state k.good a.kept a.pairs (ap (λ (x : Table). x.latest) (a.stays).same) (ap (λ (x : Table). x.marks) (a.stays).same) in
+    let after = tended_table i low some (drop looked later) (after_quanta i quanta) admitted first pairs q.hart q.turns in
+    let b = behind i q.hart q.turns admitted pairs in
+    let is_many = ap (λ (x : Table). length x.pairs) is in
     let is_samples = ap (λ (x : Table). x.samples) is in
     let left = drop_many looked later a.looked in
     let count = length-append quanta (q ∷ []) in
@@ -112,7 +112,7 @@ quantum_kept i quanta later t admitted new looked q k few a is harts time idle s
       state = subst (λ (x : Table). IsTableOf i (after_quanta i (quanta ++ q ∷ [])) (drop looked later) x) (sym is)
           (subst (λ (x : State). IsTableOf i x (drop looked later) (table_tended i.settings.width q.hart q.turns admitted)) (sym (one_work i quanta q)) after);
       live = live;
-      kits = subst (λ (x : Table). AllByRecursion (IsSoundKit i x.samples) x.kits) (sym is) b.kits;
+      pairs = subst (λ (x : Table). AllByRecursion (IsSoundPair i x.samples) x.pairs) (sym is) b.pairs;
       many = omega arith;
       wishes = λ w h. k.wishes w (in_drop looked later w h);
       harts = harts ∙ (ap (λ (c : Core). length c.harts) (a.stays).core ∙ k.harts);
@@ -129,28 +129,28 @@ quantum_kept i quanta later t admitted new looked q k few a is harts time idle s
 
 -- ---- the end
 
-end_behind : (i : Inputs) (t : Table) → AllByRecursion (IsSoundKit i t.samples) t.kits → Behind i t (table_closed t)
+end_behind : (i : Inputs) (t : Table) → AllByRecursion (IsSoundPair i t.samples) t.pairs → Behind i t (table_closed t)
 end_behind i t a = by (nat_lt (table_quiet t).last (table_quiet t).time)
   where
     by : (b : Bool) → Behind i t (table_ended (cond b (table_last (table_quiet t)) (table_quiet t)))
     by true =
         let q = table_quiet t in
         record {
-          kits = all_sampled i t.samples q.machine.state q.time t.kits a;
-          many = length-map t.kits (kit_sampled q.machine.state q.time);
+          pairs = all_sampled i t.samples q.machine.state q.time t.pairs a;
+          many = length-map t.pairs (pair_sampled q.machine.state q.time);
           samples = omega arith;
           places = refl;
           rules = step_rules q.time (table_sampled q).tests t.search;
         }
-    by false = record { kits = a; many = refl; samples = omega arith; places = refl; rules = refl }
+    by false = record { pairs = a; many = refl; samples = omega arith; places = refl; rules = refl }
 
 pub end_kept : (i : Inputs) (quanta : List Quantum) (later : List CheckedWish) (t new : Table) → IsTableAfter i quanta false later t → new ≡ table_closed t → IsQuiet new.machine.state.core
-    → length new.machine.state.core.harts ≡ length t.machine.state.core.harts → new.time < t.time + 2 ^ 32 → AreLive new.machine.state.placer new.kits new.live → IsTableAfter i quanta true later new
+    → length new.machine.state.core.harts ≡ length t.machine.state.core.harts → new.time < t.time + 2 ^ 32 → AreLive new.machine.state.placer new.pairs new.live → IsTableAfter i quanta true later new
 end_kept i quanta later t new k is quiet harts time live =
     let settings = k.given.settings in
-    let after = closed_table i settings.budget.1 (let bins = settings.bins.0 in omega arith) later (after_quanta i quanta) t k.state k.kits in
-    let b = end_behind i t k.kits in
-    let is_many = ap (λ (x : Table). length x.kits) is in
+    let after = closed_table i settings.budget.1 (let bins = settings.bins.0 in omega arith) later (after_quanta i quanta) t k.state k.pairs in
+    let b = end_behind i t k.pairs in
+    let is_many = ap (λ (x : Table). length x.pairs) is in
     let is_samples = ap (λ (x : Table). x.samples) is in
     let many = k.many in
     let same_many = b.many in
@@ -163,7 +163,7 @@ end_kept i quanta later t new k is quiet harts time live =
       allowed = k.allowed;
       state = subst (IsTableOf i (final_state i (after_quanta i quanta)) later) (sym is) after;
       live = live;
-      kits = subst (λ (x : Table). AllByRecursion (IsSoundKit i x.samples) x.kits) (sym is) b.kits;
+      pairs = subst (λ (x : Table). AllByRecursion (IsSoundPair i x.samples) x.pairs) (sym is) b.pairs;
       many = omega arith;
       wishes = k.wishes;
       harts = harts ∙ k.harts;

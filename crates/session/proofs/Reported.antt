@@ -17,11 +17,11 @@ use Rattle.session_spec.specs.Inputs.{Inputs}
 use Rattle.session_spec.specs.declared.data.MetricFocusPair.{MetricFocusPair}
 use Rattle.session_spec.specs.States.{SessionState, State}
 use Rattle.session_spec.proofs.Runs.{is_run}
-use Rattle.session_kits.specs.declared.kit.Kit.{Kit}
+use Rattle.session_pairs.specs.declared.pair.SampledPair.{SampledPair}
 use Rattle.report.proofs.HartEnds.{same_end}
 use Rattle.report.specs.HartEnds.{hart_end}
 use Rattle.session.specs.Parts.{hart_part, parts_of, program_of_run, refused_part, search_part, shown_part, shown_parts}
-use Rattle.session.specs.Seen.{hart_seen, kit_parts, parts_by, table_parts}
+use Rattle.session.specs.Seen.{hart_seen, pair_parts, parts_by, table_parts}
 use Rattle.session.specs.Tables.{AreFolded, IsTableOf, Table, lasts_in, shown_in}
 
 -- one more of a list was pushed
@@ -60,42 +60,42 @@ same_one : (i : Inputs) (x : MetricFocusPair) (r : List Bin) (b : Bool) → part
 same_one i x r true = refl
 same_one i x r false = refl
 
-same_shown : (i : Inputs) (ks : List Kit) (rs : List (List Bin)) → AreFolded i ks rs → kit_parts i ks ≡ shown_parts i (shown_in ks) rs
+same_shown : (i : Inputs) (ks : List SampledPair) (rs : List (List Bin)) → AreFolded i ks rs → pair_parts i ks ≡ shown_parts i (shown_in ks) rs
 same_shown i [] [] f = refl
 same_shown i [] (r ∷ rs) f = absurd f
 same_shown i (k ∷ ks) [] f = absurd f
 same_shown i (k ∷ ks) (r ∷ rs) f = ap₂ (λ (x xs : List ShownPart). x ++ xs) (ap (parts_by i k.shown) f.0 ∙ same_one i k.shown r (is_none k.shown.node)) (same_shown i ks rs f.1)
 
 -- one more of the pairs
-kits_append : (i : Inputs) (ks : List Kit) (k : Kit) → kit_parts i (ks ++ k ∷ []) ≡ kit_parts i ks ++ parts_by i k.shown k.hist
-kits_append i [] k = append-nil _
-kits_append i (x ∷ ks) k = ap (λ ps. parts_by i x.shown x.hist ++ ps) (kits_append i ks k) ∙ sym (append_assoc (parts_by i x.shown x.hist) (kit_parts i ks) _)
+pairs_append : (i : Inputs) (ks : List SampledPair) (k : SampledPair) → pair_parts i (ks ++ k ∷ []) ≡ pair_parts i ks ++ parts_by i k.shown k.hist
+pairs_append i [] k = append-nil _
+pairs_append i (x ∷ ks) k = ap (λ ps. parts_by i x.shown x.hist ++ ps) (pairs_append i ks k) ∙ sym (append_assoc (parts_by i x.shown x.hist) (pair_parts i ks) _)
 
-module _ (i : Inputs) (n : ℕ) (ks : List Kit) (k : Kit) (l : n < length ks) (is : k ≡ get_or ks n k) where
-  kit_more : kit_parts i (take (n + 1) ks) ≡ kit_parts i (take n ks) ++ parts_by i k.shown k.hist
-  kit_more =
+module _ (i : Inputs) (n : ℕ) (ks : List SampledPair) (k : SampledPair) (l : n < length ks) (is : k ≡ get_or ks n k) where
+  pair_more : pair_parts i (take (n + 1) ks) ≡ pair_parts i (take n ks) ++ parts_by i k.shown k.hist
+  pair_more =
       let one : n + 1 ≡ suc n = omega arith in
-      ap (λ m. kit_parts i (take m ks)) one ∙ (ap (kit_parts i) (take-suc ks n k l) ∙ (ap (λ (y : Kit). kit_parts i (take n ks ++ y ∷ [])) (sym is) ∙ kits_append i (take n ks) k))
+      ap (λ m. pair_parts i (take m ks)) one ∙ (ap (pair_parts i) (take-suc ks n k l) ∙ (ap (λ (y : SampledPair). pair_parts i (take n ks ++ y ∷ [])) (sym is) ∙ pairs_append i (take n ks) k))
 
-  pub kit_shown : (h : Histogram) → k.hist ≡ Some h → kit_parts i (take (n + 1) ks) ≡ kit_parts i (take n ks) ++ shown_part i k.shown h ∷ []
-  kit_shown h e = kit_more ∙ ap (λ o. kit_parts i (take n ks) ++ parts_by i k.shown o) e
+  pub pair_shown : (h : Histogram) → k.hist ≡ Some h → pair_parts i (take (n + 1) ks) ≡ pair_parts i (take n ks) ++ shown_part i k.shown h ∷ []
+  pair_shown h e = pair_more ∙ ap (λ o. pair_parts i (take n ks) ++ parts_by i k.shown o) e
 
-  pub kit_tests : k.hist ≡ None → kit_parts i (take (n + 1) ks) ≡ kit_parts i (take n ks)
-  kit_tests e = kit_more ∙ (ap (λ o. kit_parts i (take n ks) ++ parts_by i k.shown o) e ∙ append-nil _)
+  pub pair_tests : k.hist ≡ None → pair_parts i (take (n + 1) ks) ≡ pair_parts i (take n ks)
+  pair_tests e = pair_more ∙ (ap (λ o. pair_parts i (take n ks) ++ parts_by i k.shown o) e ∙ append-nil _)
 
 -- ---- the whole
 
 module _ (i : Inputs) (s : State) (later : List CheckedWish) (t : Table) (k : IsTableOf i s later t) where
   same : SameProgram t.machine.state.core (program_of_run i s.owns)
   same =
-      let ran = is_run i s (lasts_in t.kits) k.sound in
+      let ran = is_run i s (lasts_in t.pairs) k.sound in
       subst (λ c. SameProgram c (program_of_run i s.owns)) (sym (ap (λ (x : SessionState). x.machine.core) k.kept)) ran.same
 
   harts : map (hart_seen i.settings.budget t.machine.state.core) t.machine.state.core.harts ≡ map (hart_part i.settings.budget) (program_of_run i s.owns).harts
   harts = same_parts i.settings.budget t.machine.state.core t.machine.state.core.harts (program_of_run i s.owns).harts same.many same.harts
 
-  shown : kit_parts i t.kits ≡ shown_parts i s.kept.shown s.recorded
-  shown = same_shown i t.kits s.recorded k.hists ∙ ap (λ (x : SessionState). shown_parts i x.shown s.recorded) k.kept
+  shown : pair_parts i t.pairs ≡ shown_parts i s.kept.shown s.recorded
+  shown = same_shown i t.pairs s.recorded k.hists ∙ ap (λ (x : SessionState). shown_parts i x.shown s.recorded) k.kept
 
   pub parts_are : table_parts i t ≡ parts_of i s
   parts_are =

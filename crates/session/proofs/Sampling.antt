@@ -11,8 +11,8 @@ use Rattle.machine.proofs.Quanta.{time_goes_on}
 use Rattle.instrument.specs.Scenes.{Happens, Hands}
 use Rattle.instrumented.specs.Instrumented.{Instrumented, after_act, after_turns}
 use Rattle.instrumented.proofs.Acts.{done_is}
-use Rattle.session_kits.specs.Kits.{HasHarts}
-use Rattle.session_kits.proofs.Live.{live_repeated, live_taken}
+use Rattle.session_pairs.specs.SampledPairs.{HasHarts}
+use Rattle.session_pairs.proofs.Live.{live_repeated, live_taken}
 use Rattle.session.specs.Tables.{CanSample, Table, table_handed, table_taken}
 
 core_taken : (es : List Event) (m : Instrumented) → (after_turns es m).core ≡ replay es m.core
@@ -32,13 +32,13 @@ module _ (t new : Table) (c : CanSample t) where
       subst CanSample (sym is) (record {
         places = c.places ∙ sym same;
         marks = c.marks ∙ sym same;
-        harts = subst (λ n. AllByRecursion (HasHarts n) t.kits) (sym same) c.harts;
+        harts = subst (λ n. AllByRecursion (HasHarts n) t.pairs) (sym same) c.harts;
         few = c.few;
         number = c.number;
         samples = c.samples;
         most = subst (λ n. n ≤ MAX_HARTS) (sym same) c.most;
         ticks = omega arith;
-        live = live_taken t.machine.state t.kits t.live c.live es;
+        live = live_taken t.machine.state t.pairs t.live c.live es;
       })
 
   pub can_handed : new ≡ table_handed t → new.machine.state.core.harts ≡ t.machine.state.core.harts → CanSample new
@@ -50,13 +50,13 @@ module _ (t new : Table) (c : CanSample t) where
       subst CanSample (sym is) (record {
         places = c.places ∙ sym same;
         marks = c.marks ∙ sym same;
-        harts = subst (λ n. AllByRecursion (HasHarts n) t.kits) (sym same) c.harts;
+        harts = subst (λ n. AllByRecursion (HasHarts n) t.pairs) (sym same) c.harts;
         few = c.few;
         number = c.number;
         samples = c.samples;
         most = subst (λ n. n ≤ MAX_HARTS) (sym same) c.most;
         ticks = omega arith;
-        live = live_repeated t.machine.state t.kits t.live c.live 8 Hands tt;
+        live = live_repeated t.machine.state t.pairs t.live c.live 8 Hands tt;
       })
 
 -- no hart has more ticks than all together

@@ -3,20 +3,20 @@ use Rattle.std.proofs.Common.{ℕ, ◌+◌, ◌≤◌, List, [], ◌∷◌, ◌+
 use Rattle.pn_types.specs.declared.plan.Plan.{Plan}
 use Rattle.session_spec.specs.Inputs.{Inputs}
 use Rattle.session_spec.proofs.Lists.{all_append}
-use Rattle.session_kits.specs.declared.kit.Kit.{Kit}
-use Rattle.session_kits.specs.Kits.{AreLive}
+use Rattle.session_pairs.specs.declared.pair.SampledPair.{SampledPair}
+use Rattle.session_pairs.specs.SampledPairs.{AreLive}
 use Rattle.session.specs.Outcomes.{IsAdmissionStep}
 use Rattle.session.specs.Tables.{IsMore, IsNew, IsStill, Table}
 
 -- ---- pairs
 
-pub none_more : (i : Inputs) (kits : List Kit) → IsMore i kits kits
-none_more i kits = record { more = []; is = sym (append-nil kits); each = tt }
+pub none_more : (i : Inputs) (pairs : List SampledPair) → IsMore i pairs pairs
+none_more i pairs = record { more = []; is = sym (append-nil pairs); each = tt }
 
-pub one_more : (i : Inputs) (kits : List Kit) (k : Kit) → IsNew i k → IsMore i kits (kits ++ k ∷ [])
-one_more i kits k n = record { more = k ∷ []; is = refl; each = (n, tt) }
+pub one_more : (i : Inputs) (pairs : List SampledPair) (k : SampledPair) → IsNew i k → IsMore i pairs (pairs ++ k ∷ [])
+one_more i pairs k n = record { more = k ∷ []; is = refl; each = (n, tt) }
 
-more_on : (i : Inputs) (a b c : List Kit) → IsMore i a b → IsMore i b c → IsMore i a c
+more_on : (i : Inputs) (a b c : List SampledPair) → IsMore i a b → IsMore i b c → IsMore i a c
 more_on i a b c m n = record {
   more = m.more ++ n.more;
   is = n.is ∙ (ap (λ l. l ++ n.more) m.is ∙ append_assoc a m.more n.more);
@@ -30,24 +30,24 @@ still_first t = record { same = refl; core = refl; rules = refl }
 
 pub still_on : (a b c : Table) → IsStill a b → IsStill b c → IsStill a c
 still_on a b c s r =
-    let f : Table → Table = λ x. record x { machine = c.machine; refused = c.refused; kits = c.kits; live = c.live; search = c.search; room = c.room; worked = c.worked } in
+    let f : Table → Table = λ x. record x { machine = c.machine; refused = c.refused; pairs = c.pairs; live = c.live; search = c.search; room = c.room; worked = c.worked } in
     record { same = r.same ∙ ap f s.same; core = r.core ∙ s.core; rules = r.rules ∙ s.rules }
 
 -- ---- a number of steps
 
 pub record AreSteps (i : Inputs) (old t : Table) (n : ℕ) : Type 0 where
-  pub kits : IsMore i old.kits t.kits
-  pub few : length t.kits ≤ length old.kits + n
+  pub pairs : IsMore i old.pairs t.pairs
+  pub few : length t.pairs ≤ length old.pairs + n
   pub room : old.room ≤ t.room + n
-  pub live : AreLive t.machine.state.placer t.kits t.live
+  pub live : AreLive t.machine.state.placer t.pairs t.live
   pub still : IsStill old t
 
-pub no_steps : (i : Inputs) (t : Table) → AreLive t.machine.state.placer t.kits t.live → AreSteps i t t 0
-no_steps i t live = record { kits = none_more i t.kits; few = omega arith; room = omega arith; live = live; still = still_first t }
+pub no_steps : (i : Inputs) (t : Table) → AreLive t.machine.state.placer t.pairs t.live → AreSteps i t t 0
+no_steps i t live = record { pairs = none_more i t.pairs; few = omega arith; room = omega arith; live = live; still = still_first t }
 
 pub next_step : (i : Inputs) (plan : Plan) (old t new : Table) (n : ℕ) → AreSteps i old t n → IsAdmissionStep i plan t new → AreSteps i old new (n + 1)
 next_step i plan old t new n a s = record {
-  kits = more_on i old.kits t.kits new.kits a.kits s.kits;
+  pairs = more_on i old.pairs t.pairs new.pairs a.pairs s.pairs;
   few = omega (arith, a.few, s.few);
   room = omega (arith, a.room, s.room);
   live = s.live;

@@ -64,12 +64,12 @@ pub record Taking (i : Inputs) (plans : List Plan) (all : List Candidate) (old :
   pub kept : (ws : List CheckedWish) → with_nodes i (numbers_in cs) (kept_of ws t) ≡ with_nodes i (numbers_in all) (kept_of ws old)
   pub steps : AreSteps i old t place
   pub some : length plans ≤ old.room
-  pub most : length old.kits + length plans < 2 ^ 31
+  pub most : length old.pairs + length plans < 2 ^ 31
   pub program : old.machine.state.core.program ≡ program_of i.image
   pub each : AreContenders i t.search.nodes (drop place plans) cs
   pub ready : AreReady (map need_of (drop place plans)) t.machine.ready
-  pub costs : AllByRecursion (HasCost i) t.kits
-  pub counted : force ≡ force_in t.machine.state.placer t.kits
+  pub costs : AllByRecursion (HasCost i) t.pairs
+  pub counted : force ≡ force_in t.machine.state.placer t.pairs
 
 module _ (i : Inputs) (plans : List Plan) (first : List Candidate) (old : Table) (place : ℕ) (t : Table) (all cs : List Candidate) (force : ℕ) (plan : Plan) (c : Candidate)
     (k : Taking i plans first old place t all force) (is_plan : slice_get plans place ≡ Some plan) (is_c : all ≡ c ∷ cs) where
@@ -85,7 +85,7 @@ module _ (i : Inputs) (plans : List Plan) (first : List Candidate) (old : Table)
   node_ready = ready_in (need_of plan) (map need_of (drop (place + 1) plans)) t.machine.ready needed
 
   pub next_taking : (new : Table) (now : ℕ) → is_full t.machine.state.placer ≡ false → ((ws : List CheckedWish) → kept_of ws new ≡ with_node i (candidate_number c) (kept_of ws t)) → IsAdmissionStep i plan t new
-      → IsOneChanged (candidate_number c) t.search new.search → now ≡ force_in new.machine.state.placer new.kits → Taking i plans first old (place + 1) new cs now
+      → IsOneChanged (candidate_number c) t.search new.search → now ≡ force_in new.machine.state.placer new.pairs → Taking i plans first old (place + 1) new cs now
   next_taking new now more_allowed kept step search is = record {
     kept = λ ws.
         ap (with_nodes i (numbers_in cs)) (kept ws)
@@ -97,7 +97,7 @@ module _ (i : Inputs) (plans : List Plan) (first : List Candidate) (old : Table)
     program = k.program;
     each = contenders_stay i (candidate_number c) t.search new.search (drop (place + 1) plans) cs search heads.1;
     ready = ready_behind plan (map need_of (drop (place + 1) plans)) t.machine.ready new.machine.ready needed step.ready;
-    costs = more_costs i t.kits new.kits k.costs step.kits;
+    costs = more_costs i t.pairs new.pairs k.costs step.pairs;
     counted = is;
   }
 

@@ -39,7 +39,7 @@ module _ (i : Inputs) (quanta : List Quantum) (over : Bool) (later : List Checke
   low : (h : ℕ) (x : Hart) → slice_get t.machine.state.core.harts h ≡ Some x → x.ticks ≤ MAX_BUDGET
   low h x e =
       let first = start_core i.image i.settings.harts i.settings.budget in
-      let ran = is_run i (state_at i quanta over) (lasts_in t.kits) k.state.sound in
+      let ran = is_run i (state_at i quanta over) (lasts_in t.pairs) k.state.sound in
       let core : t.machine.state.core ≡ replay ran.events first = ap (λ (x : SessionState). x.machine.core) k.state.kept ∙ ran.core in
       let below : KeepsBudget (replay ran.events first) = budget_is_kept i.image i.settings.harts i.settings.budget ran.events k.state.sound.tied.program ran.legal in
       let few = below h x (subst (λ (c : Core). slice_get c.harts h ≡ Some x) core e) in

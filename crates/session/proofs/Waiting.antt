@@ -18,8 +18,8 @@ use Rattle.session_spec.specs.Inputs.{Inputs, planned}
 use Rattle.session_spec.specs.Searches.{metric_of, rules_of}
 use Rattle.session_spec.specs.States.{SessionState}
 use Rattle.session_spec.specs.Tests.{barred, in_force, must_wait, tests_next, with_node, with_plan_of, with_test, with_waiting}
-use Rattle.session_kits.specs.declared.kit.Kit.{Kit}
-use Rattle.session_kits.proofs.Dropped.{shown_in}
+use Rattle.session_pairs.specs.declared.pair.SampledPair.{SampledPair}
+use Rattle.session_pairs.proofs.Dropped.{shown_in}
 use Rattle.session.specs.declared.candidate.Candidate.{Candidate}
 use Rattle.session.specs.declared.failure.Failure.{Failure}
 use Rattle.session.specs.declared.failure.Failure.TheVariants.{NoPlan, Refused}
@@ -59,8 +59,8 @@ module _ (i : Inputs) (n : ℕ) (k : SessionState) (node : Node) (stands : slice
 -- ---- a contender
 
 -- nothing is kept of an admission that failed
-pub kept_same : (ws : List CheckedWish) (old new : Table) → new ≡ record old { machine = new.machine; kits = new.kits; live = new.live; room = new.room } → new.machine.state ≡ old.machine.state → new.kits ≡ old.kits → kept_of ws new ≡ kept_of ws old
-kept_same ws old new e machine kits = ap (kept_of ws) e ∙ ap₂ (λ (m : Instrumented) (ks : List Kit). record (kept_of ws old) { machine = m; shown = shown_in ks }) machine kits
+pub kept_same : (ws : List CheckedWish) (old new : Table) → new ≡ record old { machine = new.machine; pairs = new.pairs; live = new.live; room = new.room } → new.machine.state ≡ old.machine.state → new.pairs ≡ old.pairs → kept_of ws new ≡ kept_of ws old
+kept_same ws old new e machine pairs = ap (kept_of ws) e ∙ ap₂ (λ (m : Instrumented) (ks : List SampledPair). record (kept_of ws old) { machine = m; shown = shown_in ks }) machine pairs
 
 module _ (i : Inputs) (old : Table) (plan : Plan) (c : Candidate) (x : IsContender i old.search.nodes plan c) where
   pub planned_by : (o : Option PlanFault) → c.fault ≡ o → IsPlanOrFault i (metric_of i x.node) (x.node).focus o plan
@@ -81,7 +81,7 @@ module _ (i : Inputs) (old : Table) (plan : Plan) (c : Candidate) (x : IsContend
         admits i x.number (kept_of ws old) x.node x.stands plan f (planned_by None e.0).0 (w e.0) ∙ ap (λ r. with_test r i x.number x.node plan (kept_of ws old)) e.1
 
     -- it gets one
-    pub node_tested : (new : Table) (number : InstrumentNo) → IsInstrumented i plan c (Some (rules_of i).decl.cost) old new number → new ≡ record old { machine = new.machine; kits = new.kits; live = new.live; room = new.room }
+    pub node_tested : (new : Table) (number : InstrumentNo) → IsInstrumented i plan c (Some (rules_of i).decl.cost) old new number → new ≡ record old { machine = new.machine; pairs = new.pairs; live = new.live; room = new.room }
         → (search : SearchData) → search ≡ with_state x.number Active old.search → kept_of ws (record new { search = search }) ≡ with_node i x.number (kept_of ws old)
     node_tested new number s e search is =
         let k = kept_of ws old in
@@ -90,8 +90,8 @@ module _ (i : Inputs) (old : Table) (plan : Plan) (c : Candidate) (x : IsContend
         ap (λ (o : Option ℕ). let y : MetricFocusPair = record { instrument = number; node = o; metric = c.metric; focus = c.focus; armed = None; from = 0 } in y) (x.pair).node_is
         ∙ (ap₂ (λ (y : InstrumentNo) (m : ℕ). let z : MetricFocusPair = record { instrument = y; node = Some x.number; metric = m; focus = c.focus; armed = None; from = 0 } in z) named (x.pair).metric_is
         ∙ ap (λ g. let y : MetricFocusPair = record { instrument = record { n = k.machine.placer.count }; node = Some x.number; metric = metric_of i x.node; focus = g; armed = None; from = 0 } in y) (x.pair).focus_is) in
-        let shown : shown_in new.kits ≡ k.shown ++ tests_next i x.number x.node k ∷ [] = ap shown_in s.kits ∙ (map-append (λ (y : Kit). y.shown) old.kits _ ∙ ap (λ (y : MetricFocusPair). k.shown ++ y ∷ []) next) in
+        let shown : shown_in new.pairs ≡ k.shown ++ tests_next i x.number x.node k ∷ [] = ap shown_in s.pairs ∙ (map-append (λ (y : SampledPair). y.shown) old.pairs _ ∙ ap (λ (y : MetricFocusPair). k.shown ++ y ∷ []) next) in
         ap (λ (t : Table). kept_of ws (record t { search = search })) e
-        ∙ (ap (λ v. record k { machine = new.machine.state; shown = shown_in new.kits; search = v }) is
+        ∙ (ap (λ v. record k { machine = new.machine.state; shown = shown_in new.pairs; search = v }) is
         ∙ (ap₂ (λ (m : Instrumented) (ss : List MetricFocusPair). record k { machine = m; shown = ss; search = with_state x.number Active old.search }) s.machine shown
         ∙ sym (admits i x.number k x.node x.stands plan f (planned_by None s.planned).0 (w s.planned) ∙ ap (λ r. with_test r i x.number x.node plan k) s.placed)))

@@ -13,7 +13,7 @@ use Rattle.instrument.specs.declared.number.InstrumentNo.{InstrumentNo}
 use Rattle.session_spec.specs.declared.data.MetricFocusPair.{MetricFocusPair}
 use Rattle.session_spec.specs.Inputs.{Inputs, planned}
 use Rattle.session_spec.specs.Plans.{IsGood}
-use Rattle.session_kits.specs.declared.kit.Kit.{Kit}
+use Rattle.session_pairs.specs.declared.pair.SampledPair.{SampledPair}
 use Rattle.session.specs.declared.candidate.Candidate.{Candidate}
 
 -- ---- a pair
@@ -70,8 +70,8 @@ AreOfWishes i ws plans cs = ⊥
 abbrev pub newly_shown : Candidate → InstrumentNo → MetricFocusPair
 newly_shown c number = record { instrument = number; node = c.node; metric = c.metric; focus = c.focus; armed = None; from = 0 }
 
-abbrev pub new_kit : Inputs → Plan → Candidate → InstrumentNo → Kit
-new_kit i plan c number = record {
+abbrev pub new_pair : Inputs → Plan → Candidate → InstrumentNo → SampledPair
+new_pair i plan c number = record {
   shown = newly_shown c number;
   cost = if is_some c.node then predicted plan else 0;
   first = (harts_of_node i.tree.harts c.focus.hart).0;

@@ -11,7 +11,7 @@ use Rattle.session_spec.specs.declared.data.MetricFocusPair.{MetricFocusPair}
 use Rattle.session_spec.specs.Inputs.{Inputs, planned}
 use Rattle.session_spec.specs.Searches.{metric_of, rules_of}
 use Rattle.session_spec.specs.Tests.{is_gone, must_wait, taken_at_once, words_of}
-use Rattle.session_kits.specs.declared.kit.Kit.{Kit}
+use Rattle.session_pairs.specs.declared.pair.SampledPair.{SampledPair}
 use Rattle.session.specs.Candidates.{IsCandidate, IsPairOf, HasItsHarts}
 use Rattle.session.specs.declared.candidate.Candidate.{Candidate}
 
@@ -81,14 +81,14 @@ abbrev pub cost_of : Inputs → MetricFocusPair → ℕ
 cost_of i s = if is_some s.node then words_of i s else 0
 
 -- its cost is what it adds, and has 32 bits
-abbrev pub HasCost : Inputs → Kit → Type 0
+abbrev pub HasCost : Inputs → SampledPair → Type 0
 HasCost i k = (k.cost ≡ cost_of i k.shown) × (k.cost < 2 ^ 32)
 
 -- what a pair adds to them
-abbrev pub counted : Placements → Kit → ℕ
+abbrev pub counted : Placements → SampledPair → ℕ
 counted p k = if is_gone (state_of p k.shown.instrument.n) then 0 else k.cost
 
-abbrev pub force_in : Placements → List Kit → ℕ
+abbrev pub force_in : Placements → List SampledPair → ℕ
 force_in p [] = 0
 force_in p (k ∷ ks) = counted p k + force_in p ks
 

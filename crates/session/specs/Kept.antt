@@ -14,15 +14,15 @@ use Rattle.session_spec.specs.Work.{AreAllowed}
 use Rattle.session_spec.specs.Plans.{ArePlansGood}
 use Rattle.session_spec.specs.Searches.{rules_of}
 use Rattle.session_spec.specs.Tests.{taken_at_once, with_tests}
-use Rattle.session_kits.specs.declared.kit.Kit.{Kit}
-use Rattle.session_kits.specs.Kits.{AreLive}
+use Rattle.session_pairs.specs.declared.pair.SampledPair.{SampledPair}
+use Rattle.session_pairs.specs.SampledPairs.{AreLive}
 use Rattle.session.specs.Contenders.{HasCost}
 use Rattle.session.specs.Given.{AreGiven, IsWishOf}
 use Rattle.session.specs.Sessions.{state_at}
 use Rattle.session.specs.Tables.{IsMore, IsStill, IsTableOf, Table, first_table, kept_of}
 
 -- the harts of a pair are those of its focus and harts of the machine; it has at most as many samples as were taken
-pub record IsSoundKit (i : Inputs) (samples : ℕ) (k : Kit) : Type 0 where
+pub record IsSoundPair (i : Inputs) (samples : ℕ) (k : SampledPair) : Type 0 where
   pub harts : (k.first, k.count) ≡ harts_of_node i.tree.harts k.shown.focus.hart
   pub within : k.first + k.count ≤ i.settings.harts
   pub few : IfSome k.hist (λ hist. hist.count ≤ samples)
@@ -34,9 +34,9 @@ pub record IsTableAfter (i : Inputs) (quanta : List Quantum) (over : Bool) (late
   pub good : ArePlansGood i
   pub allowed : AreAllowed i quanta
   pub state : IsTableOf i (state_at i quanta over) later t
-  pub live : AreLive t.machine.state.placer t.kits t.live
-  pub kits : AllByRecursion (IsSoundKit i t.samples) t.kits
-  pub many : length t.kits + length later ≤ length i.checked.wishes + taken_at_once * (length quanta + 1)
+  pub live : AreLive t.machine.state.placer t.pairs t.live
+  pub pairs : AllByRecursion (IsSoundPair i t.samples) t.pairs
+  pub many : length t.pairs + length later ≤ length i.checked.wishes + taken_at_once * (length quanta + 1)
   pub wishes : (w : CheckedWish) → In w later → IsWishOf i w
   pub harts : length t.machine.state.core.harts ≡ i.settings.harts
   pub places : t.places ≡ i.settings.harts
@@ -54,9 +54,9 @@ pub record IsWished (i : Inputs) (t : Table) : Type 0 where
   pub program : IsProgram i.image
   pub good : ArePlansGood i
   pub kept : kept_of (later_wishes i) t ≡ with_tests i (wished i)
-  pub kits : IsMore i [] t.kits
-  pub few : length t.kits ≤ length (first_wishes i) + taken_at_once
-  pub live : AreLive t.machine.state.placer t.kits t.live
+  pub pairs : IsMore i [] t.pairs
+  pub few : length t.pairs ≤ length (first_wishes i) + taken_at_once
+  pub live : AreLive t.machine.state.placer t.pairs t.live
   pub still : IsStill (first_table i) t
 
 -- the same, as a whole

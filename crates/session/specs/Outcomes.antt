@@ -11,8 +11,8 @@ use Rattle.instrument.specs.declared.number.InstrumentNo.{InstrumentNo}
 use Rattle.instrumented.specs.Instrumented.{after_act}
 use Rattle.session_spec.specs.Inputs.{Inputs, cause_of_plan, cause_of_refusal}
 use Rattle.session_spec.specs.Searches.{bar_of_plan, bar_of_refusal}
-use Rattle.session_kits.specs.Kits.{AreLive}
-use Rattle.session.specs.Candidates.{new_kit}
+use Rattle.session_pairs.specs.SampledPairs.{AreLive}
+use Rattle.session.specs.Candidates.{new_pair}
 use Rattle.session.specs.Tables.{IsMore, IsStill, Table}
 use Rattle.session.specs.declared.candidate.Candidate.{Candidate}
 use Rattle.session.specs.declared.failure.Failure.{Failure}
@@ -37,7 +37,7 @@ pub record IsInstrumented
   pub placed : admission old.machine.state.placer plan limit ≡ Ok new.machine.state.placer
   pub number_is : number.n ≡ old.machine.state.placer.count
   pub machine : new.machine.state ≡ after_act (Admits plan limit) old.machine.state
-  pub kits : new.kits ≡ old.kits ++ new_kit i plan c number ∷ []
+  pub pairs : new.pairs ≡ old.pairs ++ new_pair i plan c number ∷ []
 
 -- why it has none
 abbrev pub IsFailure : Placements → Plan → Option PlanFault → Option ℕ → Failure → Type 0
@@ -48,15 +48,15 @@ IsFailure p plan fault limit (Refused refused) = (fault ≡ None) × (admission 
 pub record IsFailed (plan : Plan) (fault : Option PlanFault) (limit : Option ℕ) (old new : Table) (failure : Failure) : Type 0 where
   pub why : IsFailure old.machine.state.placer plan fault limit failure
   pub machine : new.machine.state ≡ old.machine.state
-  pub kits : new.kits ≡ old.kits
+  pub pairs : new.pairs ≡ old.pairs
   pub room : new.room ≡ old.room
 
 -- What one step of an admission changes, for which this plan is ready: there is at most one more pair, and no other pair is
 -- different.
 pub record IsAdmissionStep (i : Inputs) (plan : Plan) (old new : Table) : Type 0 where
-  pub kits : IsMore i old.kits new.kits
-  pub few : length new.kits ≤ length old.kits + 1
+  pub pairs : IsMore i old.pairs new.pairs
+  pub few : length new.pairs ≤ length old.pairs + 1
   pub room : old.room ≤ new.room + 1
   pub ready : (new.machine.ready ≡ old.machine.ready) ⊎ (new.machine.ready ≡ without (need_of plan) old.machine.ready)
-  pub live : AreLive new.machine.state.placer new.kits new.live
+  pub live : AreLive new.machine.state.placer new.pairs new.live
   pub still : IsStill old new

@@ -9,7 +9,7 @@ use Rattle.report.specs.declared.parts.ReportParts.{ReportParts}
 use Rattle.report.specs.declared.parts.ShownPart.{ShownPart}
 use Rattle.session_spec.specs.declared.data.MetricFocusPair.{MetricFocusPair}
 use Rattle.session_spec.specs.Inputs.{Inputs}
-use Rattle.session_kits.specs.declared.kit.Kit.{Kit}
+use Rattle.session_pairs.specs.declared.pair.SampledPair.{SampledPair}
 use Rattle.report.specs.HartEnds.{hart_end}
 use Rattle.session.specs.Parts.{refused_part, search_part, shown_part}
 use Rattle.session.specs.Tables.{Table}
@@ -23,9 +23,9 @@ abbrev pub parts_by : Inputs → MetricFocusPair → Option Histogram → List S
 parts_by i s None = []
 parts_by i s (Some h) = shown_part i s h ∷ []
 
-abbrev pub kit_parts : Inputs → List Kit → List ShownPart
-kit_parts i [] = []
-kit_parts i (k ∷ ks) = parts_by i k.shown k.hist ++ kit_parts i ks
+abbrev pub pair_parts : Inputs → List SampledPair → List ShownPart
+pair_parts i [] = []
+pair_parts i (k ∷ ks) = parts_by i k.shown k.hist ++ pair_parts i ks
 
 abbrev pub table_parts : Inputs → Table → ReportParts
 table_parts i t = record {
@@ -33,6 +33,6 @@ table_parts i t = record {
   samples = t.samples;
   output = t.machine.state.core.prog.out;
   refused = map (refused_part i) t.refused;
-  shown = kit_parts i t.kits;
+  shown = pair_parts i t.pairs;
   search = search_part i i.checked.search t.search.nodes;
 }

@@ -27,8 +27,8 @@ use Rattle.fold_hist.specs.Bins.{Histogram, hist_of}
 use Rattle.fold_hist.specs.declared.bin.Bin.{Bin}
 use Rattle.pn_types.specs.declared.limits.TheConstants.{MAX_HARTS}
 use Rattle.session.specs.Contenders.{cost_of, first_search}
-use Rattle.session_kits.specs.declared.kit.Kit.{Kit}
-use Rattle.session_kits.specs.Kits.{AreLive, HasFew, HasHarts, dropped_tests, kit_sampled, kits_armed, kits_latest, kits_tests, live_of, machine_of_armed}
+use Rattle.session_pairs.specs.declared.pair.SampledPair.{SampledPair}
+use Rattle.session_pairs.specs.SampledPairs.{AreLive, HasFew, HasHarts, dropped_tests, pair_sampled, pairs_armed, pairs_latest, pairs_tests, live_of, machine_of_armed}
 
 -- the machine, the wishes that were refused, the pairs that are or were shown, the places of those that may still be sampled, the
 -- search, the latest samples of what was wished and of nodes, how many ticks each hart had then, for how many harts there is room to
@@ -36,7 +36,7 @@ use Rattle.session_kits.specs.Kits.{AreLive, HasFew, HasHarts, dropped_tests, ki
 pub record Table : Type 0 where
   pub machine : InstrumentedData
   pub refused : List RefusedWish
-  pub kits : List Kit
+  pub pairs : List SampledPair
   pub live : List ℕ
   pub search : SearchData
   pub latest : List LatestSample
@@ -54,12 +54,12 @@ pub record Table : Type 0 where
 
 -- ---- what a session goes on from
 
-abbrev pub shown_in : List Kit → List MetricFocusPair
-shown_in kits = map (λ (k : Kit). k.shown) kits
+abbrev pub shown_in : List SampledPair → List MetricFocusPair
+shown_in pairs = map (λ (k : SampledPair). k.shown) pairs
 
 -- what was read last of each
-abbrev pub lasts_in : List Kit → List ℕ
-lasts_in kits = map (λ (k : Kit). k.last) kits
+abbrev pub lasts_in : List SampledPair → List ℕ
+lasts_in pairs = map (λ (k : SampledPair). k.last) pairs
 
 -- with the wishes that are to come
 abbrev pub kept_of : List CheckedWish → Table → SessionState
@@ -67,7 +67,7 @@ kept_of ws t = record {
   machine = t.machine.state;
   wishes = ws;
   refused = t.refused;
-  shown = shown_in t.kits;
+  shown = shown_in t.pairs;
   search = t.search;
   time = t.time;
   due = t.due;
@@ -83,7 +83,7 @@ abbrev pub hist_at : Inputs → MetricFocusPair → List Bin → Option Histogra
 hist_at i s r = if is_none s.node then Some (hist_of i.settings.bins r) else None
 
 -- each has the histogram of its samples, if it was wished
-abbrev pub AreFolded : Inputs → List Kit → List (List Bin) → Type 0
+abbrev pub AreFolded : Inputs → List SampledPair → List (List Bin) → Type 0
 AreFolded i [] [] = Unit {0}
 AreFolded i [] (r ∷ rs) = ⊥
 AreFolded i (k ∷ ks) [] = ⊥
@@ -93,17 +93,17 @@ AreFolded i (k ∷ ks) (r ∷ rs) = (k.hist ≡ hist_at i k.shown r) × AreFolde
 -- many ticks each hart had then are the state's.
 pub record IsTableOf (i : Inputs) (s : State) (later : List CheckedWish) (t : Table) : Type 0 where
   pub kept : kept_of later t ≡ s.kept
-  pub hists : AreFolded i t.kits s.recorded
+  pub hists : AreFolded i t.pairs s.recorded
   pub latest : t.latest ≡ s.latest
   pub marks : t.marks ≡ marks_of i s
-  pub sound : IsSoundState i s (lasts_in t.kits)
+  pub sound : IsSoundState i s (lasts_in t.pairs)
 
 -- where nothing was done yet, and work is due at this time
 abbrev pub table_at_first : InstrumentedData → SearchData → List ℕ → ℕ → ℕ → Table
 table_at_first machine search marks places due = record {
   machine = machine;
   refused = [];
-  kits = [];
+  pairs = [];
   live = [];
   search = search;
   latest = [];
@@ -133,13 +133,13 @@ first_table i =
 pub record CanSample (t : Table) : Type 0 where
   pub places : t.places ≡ length t.machine.state.core.harts
   pub marks : length t.marks ≡ length t.machine.state.core.harts
-  pub harts : AllByRecursion (HasHarts (length t.machine.state.core.harts)) t.kits
-  pub few : AllByRecursion HasFew t.kits
-  pub number : length t.kits < 2 ^ 32
+  pub harts : AllByRecursion (HasHarts (length t.machine.state.core.harts)) t.pairs
+  pub few : AllByRecursion HasFew t.pairs
+  pub number : length t.pairs < 2 ^ 32
   pub samples : t.samples < 2 ^ 63
   pub most : length t.machine.state.core.harts ≤ MAX_HARTS
   pub ticks : ticks_in t.machine.state.core.harts ≤ t.time
-  pub live : AreLive t.machine.state.placer t.kits t.live
+  pub live : AreLive t.machine.state.placer t.pairs t.live
 
 -- turns
 abbrev pub table_taken : List Event → Table → Table
@@ -161,9 +161,9 @@ table_quiet t = table_taken (settling t.machine.state.core) t
 
 abbrev pub table_sampled : Table → Table
 table_sampled t = record t {
-  kits = map (kit_sampled t.machine.state t.time) t.kits;
-  latest = kits_latest t.machine.state t.time 0 t.kits;
-  tests = kits_tests t.machine.state t.marks t.kits;
+  pairs = map (pair_sampled t.machine.state t.time) t.pairs;
+  latest = pairs_latest t.machine.state t.time 0 t.pairs;
+  tests = pairs_tests t.machine.state t.marks t.pairs;
   marks = ticks_of t.machine.state;
   samples = t.samples + 1;
   last = t.time;
@@ -177,18 +177,18 @@ table_swept t =
 
 -- and tests that are gone are forgotten
 abbrev pub table_freed : Table → Table
-table_freed t = record (table_swept t) { live = live_of (table_swept t).machine.state.placer t.kits t.live }
+table_freed t = record (table_swept t) { live = live_of (table_swept t).machine.state.placer t.pairs t.live }
 
 abbrev pub table_armed : Table → Table
 table_armed t = record t {
-  machine = record t.machine { state = machine_of_armed t.machine.state t.kits };
-  kits = kits_armed t.time t.machine.state t.kits;
+  machine = record t.machine { state = machine_of_armed t.machine.state t.pairs };
+  pairs = pairs_armed t.time t.machine.state t.pairs;
 }
 
 -- the search's step, and what it drops
 abbrev pub table_stepped : SearchData → Table → Table
 table_stepped search t = record t {
-  machine = record t.machine { state = dropped_tests search.drops (map (λ (k : Kit). k.shown) t.kits) t.machine.state };
+  machine = record t.machine { state = dropped_tests search.drops (map (λ (k : SampledPair). k.shown) t.pairs) t.machine.state };
   search = search;
 }
 
@@ -228,7 +228,7 @@ table_tended width h n t =
 -- ---- a pair that is to be shown
 
 -- a pair that was admitted: nothing was read of it yet
-pub record IsNew (i : Inputs) (k : Kit) : Type 0 where
+pub record IsNew (i : Inputs) (k : SampledPair) : Type 0 where
   pub last : k.last ≡ 0
   pub hist : k.hist ≡ hist_at i k.shown []
   pub harts : (k.first, k.count) ≡ harts_of_node i.tree.harts k.shown.focus.hart
@@ -237,8 +237,8 @@ pub record IsNew (i : Inputs) (k : Kit) : Type 0 where
   pub low : k.cost < 2 ^ 32
 
 -- the pairs with some new ones at the end
-pub record IsMore (i : Inputs) (old new : List Kit) : Type 0 where
-  pub more : List Kit
+pub record IsMore (i : Inputs) (old new : List SampledPair) : Type 0 where
+  pub more : List SampledPair
   pub is : new ≡ old ++ more
   pub each : AllByRecursion (IsNew i) more
 
@@ -259,7 +259,7 @@ pub record IsStill (old new : Table) : Type 0 where
   pub same : new ≡ record old {
     machine = new.machine;
     refused = new.refused;
-    kits = new.kits;
+    pairs = new.pairs;
     live = new.live;
     search = new.search;
     room = new.room;
@@ -272,9 +272,9 @@ pub record IsStill (old new : Table) : Type 0 where
 pub record IsAfterAdmission (i : Inputs) (later : List CheckedWish) (old new : Table) (n : ℕ) : Type 0 where
   pub looked : n ≤ length later
   pub kept : kept_of (drop n later) new ≡ with_admission i (kept_of later old)
-  pub kits : IsMore i old.kits new.kits
-  pub few : length new.kits ≤ length old.kits + n + taken_at_once
-  pub live : AreLive new.machine.state.placer new.kits new.live
+  pub pairs : IsMore i old.pairs new.pairs
+  pub few : length new.pairs ≤ length old.pairs + n + taken_at_once
+  pub live : AreLive new.machine.state.placer new.pairs new.live
   pub stays : IsStill old new
 
 -- nothing but the memory that was taken has changed

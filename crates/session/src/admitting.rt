@@ -9,7 +9,7 @@ ghost use Rattle.session.specs.Given.{AreGiven, IsWishOf};
 ghost use Rattle.session_spec.specs.Opening.{with_all};
 ghost use Rattle.session_spec.specs.Searches.{rules_of};
 ghost use Rattle.session_spec.specs.Tests.{taken_at_once, with_tests};
-ghost use Rattle.session_kits.specs.Kits.{AreLive};
+ghost use Rattle.session_pairs.specs.SampledPairs.{AreLive};
 ghost use Rattle.session.specs.Contenders.{HasCost, force_in};
 ghost use Rattle.session.specs.KnownCosts.{AreKnown};
 ghost use Rattle.session.specs.Tables.{IsAfterAdmission, IsMore, IsSame, IsStill, kept_of};
@@ -33,10 +33,10 @@ impl Desk {
     /// Returns a lower bound of the costs in force during an admission in which these wishes are looked at: the costs that are in
     /// force now, and 0 where a pair is dropped.
     fn least_force(&self, wishes: &[CheckedWish]) -> u64
-        requires few { length self.now.kits < 2 ^ 31 }
-        requires low { AllByRecursion (λ k. k.cost < 2 ^ 32) self.now.kits }
-        requires live { AreLive self.now.machine.state.placer self.now.kits self.now.live }
-        ensures least { result ≡ (if list_all (λ w. w.show) wishes.now then force_in self.now.machine.state.placer self.now.kits else 0) }
+        requires few { length self.now.pairs < 2 ^ 31 }
+        requires low { AllByRecursion (λ k. k.cost < 2 ^ 32) self.now.pairs }
+        requires live { AreLive self.now.machine.state.placer self.now.pairs self.now.live }
+        ensures least { result ≡ (if list_all (λ w. w.show) wishes.now then force_in self.now.machine.state.placer self.now.pairs else 0) }
         ensures bound { result < 2 ^ 63 }
     {
         if show_all(wishes) {
@@ -62,16 +62,16 @@ impl Desk {
         requires wishes { (w : CheckedWish) → In w wishes.now → IsWishOf inputs.now w }
         requires program { self.old.machine.state.core.program ≡ program_of inputs.now.image }
         requires rules { self.old.search.rules ≡ rules_of inputs.now }
-        requires few { length self.old.kits + length wishes.now + taken_at_once < 2 ^ 31 }
-        requires costs { AllByRecursion (HasCost inputs.now) self.old.kits }
-        requires live { AreLive self.old.machine.state.placer self.old.kits self.old.live }
+        requires few { length self.old.pairs + length wishes.now + taken_at_once < 2 ^ 31 }
+        requires costs { AllByRecursion (HasCost inputs.now) self.old.pairs }
+        requires live { AreLive self.old.machine.state.placer self.old.pairs self.old.live }
         requires known { AreKnown inputs.now costs.old }
         ensures kept { OnOk result ((ws : List CheckedWish)
             → kept_of ws self.new ≡ with_tests inputs.now (with_all inputs.now wishes.now (kept_of ws self.old))) }
-        ensures kits { OnOk result (IsMore inputs.now self.old.kits self.new.kits) }
-        ensures few { OnOk result (length self.new.kits ≤ length self.old.kits + length wishes.now + taken_at_once) }
+        ensures pairs { OnOk result (IsMore inputs.now self.old.pairs self.new.pairs) }
+        ensures few { OnOk result (length self.new.pairs ≤ length self.old.pairs + length wishes.now + taken_at_once) }
         ensures still { OnOk result (IsStill self.old self.new) }
-        ensures live { OnOk result (AreLive self.new.machine.state.placer self.new.kits self.new.live) }
+        ensures live { OnOk result (AreLive self.new.machine.state.placer self.new.pairs self.new.live) }
         ensures err { OnErr result (IsSame self.old self.new) }
         ensures known { AreKnown inputs.now costs.new }
     {
@@ -107,9 +107,9 @@ fn admit(
     requires wishes { (w : CheckedWish) → In w wishes.now → IsWishOf inputs.now w }
     requires program { desk.old.machine.state.core.program ≡ program_of inputs.now.image }
     requires rules { desk.old.search.rules ≡ rules_of inputs.now }
-    requires few { length desk.old.kits + length wishes.now + taken_at_once < 2 ^ 31 }
-    requires costs { AllByRecursion (HasCost inputs.now) desk.old.kits }
-    requires live { AreLive desk.old.machine.state.placer desk.old.kits desk.old.live }
+    requires few { length desk.old.pairs + length wishes.now + taken_at_once < 2 ^ 31 }
+    requires costs { AllByRecursion (HasCost inputs.now) desk.old.pairs }
+    requires live { AreLive desk.old.machine.state.placer desk.old.pairs desk.old.live }
     requires known { AreKnown inputs.now costs.old }
     ensures ok { IfOk result (IsAfterAdmission inputs.now wishes.now desk.old desk.new) }
     ensures err { OnErr result (IsSame desk.old desk.new) }
@@ -143,9 +143,9 @@ pub(crate) fn admit_from(
     requires wishes { (w : CheckedWish) → In w (drop looked wishes.now) → IsWishOf inputs.now w }
     requires program { desk.old.machine.state.core.program ≡ program_of inputs.now.image }
     requires rules { desk.old.search.rules ≡ rules_of inputs.now }
-    requires few { length desk.old.kits + length (drop looked wishes.now) + taken_at_once < 2 ^ 31 }
-    requires costs { AllByRecursion (HasCost inputs.now) desk.old.kits }
-    requires live { AreLive desk.old.machine.state.placer desk.old.kits desk.old.live }
+    requires few { length desk.old.pairs + length (drop looked wishes.now) + taken_at_once < 2 ^ 31 }
+    requires costs { AllByRecursion (HasCost inputs.now) desk.old.pairs }
+    requires live { AreLive desk.old.machine.state.placer desk.old.pairs desk.old.live }
     requires known { AreKnown inputs.now costs.old }
     ensures ok { IfOk result (IsAfterAdmission inputs.now (drop looked wishes.now) desk.old desk.new) }
     ensures err { OnErr result (IsSame desk.old desk.new) }

@@ -11,7 +11,7 @@ ghost use Rattle.instrument.specs.Placements.{is_leaving, state_of};
 ghost use Rattle.session_spec.specs.Admission.{shows, with_plan, with_refused, with_wish};
 ghost use Rattle.session_spec.specs.Inputs.{planned};
 ghost use Rattle.session_spec.specs.Opening.{with_all};
-ghost use Rattle.session_kits.specs.Kits.{AreLive};
+ghost use Rattle.session_pairs.specs.SampledPairs.{AreLive};
 ghost use Rattle.session.specs.Candidates.{AreOfWishes, IsCandidate, IsOfWish, IsPairOf};
 ghost use Rattle.session.specs.Outcomes.{IsAdmissionStep};
 ghost use Rattle.session.specs.Tables.{AreReady, IsMore, IsStill, kept_of};
@@ -24,7 +24,7 @@ use instrument::{InstrumentNo, State};
 use instrumented::InstrumentedMachine;
 use mdl_check::CheckedWish;
 use pn_types::{Focus, PickCause, Plan};
-use session_kits::Kit;
+use session_pairs::SampledPair;
 use session_spec::RefusedWish;
 use std::alloc::Global;
 use std::collections::VecDeque;
@@ -44,25 +44,25 @@ fn stands(machine: &InstrumentedMachine, number: InstrumentNo) -> bool
 }
 
 /// Returns whether a pair is the wish's, and is shown.
-fn shows(machine: &InstrumentedMachine, kit: &Kit, wish: &CheckedWish) -> bool
-    ensures { result ≡ shows machine.now.state.placer wish.now kit.now.shown }
+fn shows(machine: &InstrumentedMachine, pair: &SampledPair, wish: &CheckedWish) -> bool
+    ensures { result ≡ shows machine.now.state.placer wish.now pair.now.shown }
 {
-    kit.shown.node.is_none()
-        && kit.shown.metric == wish.metric
-        && same(&kit.shown.focus, &wish.focus)
-        && stands(machine, kit.shown.instrument)
+    pair.shown.node.is_none()
+        && pair.shown.metric == wish.metric
+        && same(&pair.shown.focus, &wish.focus)
+        && stands(machine, pair.shown.instrument)
 }
 
 /// Returns the instrument that shows the pair of a wish.
 fn find_shown(
     machine: &InstrumentedMachine,
-    kits: &[Kit],
+    pairs: &[SampledPair],
     wish: &CheckedWish,
 ) -> Option<InstrumentNo>
-    ensures { result ≡ option_map (λ k. k.shown.instrument) (find (λ k. shows machine.now.state.placer wish.now k.shown) kits.now) }
+    ensures { result ≡ option_map (λ k. k.shown.instrument) (find (λ k. shows machine.now.state.placer wish.now k.shown) pairs.now) }
 {
-    let kit = kits.iter().find(|kit| shows(machine, kit, wish))?;
-    Some(kit.shown.instrument)
+    let pair = pairs.iter().find(|pair| shows(machine, pair, wish))?;
+    Some(pair.shown.instrument)
 }
 
 impl Desk {
@@ -103,7 +103,7 @@ impl Desk {
         requires pair { IsPairOf None wish.now.metric wish.now.focus candidate }
         requires candidate { IsCandidate inputs.now plan.now candidate }
         requires ready { In (need_of plan.now) self.old.machine.ready }
-        requires live { AreLive self.old.machine.state.placer self.old.kits self.old.live }
+        requires live { AreLive self.old.machine.state.placer self.old.pairs self.old.live }
         ensures kept { (ws : List CheckedWish)
             → kept_of ws self.new ≡ with_plan (planned inputs.now wish.now.metric wish.now.focus) wish.now (kept_of ws self.old) }
         ensures step { IsAdmissionStep inputs.now plan.now self.old self.new }
@@ -128,12 +128,12 @@ impl Desk {
         requires program { self.old.machine.state.core.program ≡ program_of inputs.now.image }
         requires candidate { IsOfWish inputs.now wish.now plan.now candidate }
         requires ready { In (need_of plan.now) self.old.machine.ready }
-        requires live { AreLive self.old.machine.state.placer self.old.kits self.old.live }
+        requires live { AreLive self.old.machine.state.placer self.old.pairs self.old.live }
         ensures kept { (ws : List CheckedWish) → kept_of ws self.new ≡ with_wish inputs.now wish.now (kept_of ws self.old) }
         ensures step { IsAdmissionStep inputs.now plan.now self.old self.new }
         ensures search { self.new.search ≡ self.old.search }
     {
-        let shown = find_shown(&self.machine, &self.kits.all, wish);
+        let shown = find_shown(&self.machine, &self.pairs.all, wish);
         match (candidate, shown) {
             (Some(candidate), None) => self.show(alloc, inputs, wish, plan, candidate),
             (Some(_), Some(_)) => self.refuse(wish, Some(PickCause::AlreadyShown)),
@@ -156,12 +156,12 @@ impl Desk {
         requires program { self.old.machine.state.core.program ≡ program_of inputs.now.image }
         requires each { AreOfWishes inputs.now wishes.now plans.now candidates.items }
         requires ready { AreReady (map need_of plans.now) self.old.machine.ready }
-        requires live { AreLive self.old.machine.state.placer self.old.kits self.old.live }
+        requires live { AreLive self.old.machine.state.placer self.old.pairs self.old.live }
         ensures kept { (ws : List CheckedWish) → kept_of ws self.new ≡ with_all inputs.now wishes.now (kept_of ws self.old) }
-        ensures kits { IsMore inputs.now self.old.kits self.new.kits }
-        ensures few { length self.new.kits ≤ length self.old.kits + length wishes.now }
+        ensures pairs { IsMore inputs.now self.old.pairs self.new.pairs }
+        ensures few { length self.new.pairs ≤ length self.old.pairs + length wishes.now }
         ensures room { self.old.room ≤ self.new.room + length wishes.now }
-        ensures live { AreLive self.new.machine.state.placer self.new.kits self.new.live }
+        ensures live { AreLive self.new.machine.state.placer self.new.pairs self.new.live }
         ensures still { IsStill self.old self.new }
         ensures search { self.new.search ≡ self.old.search }
         ensures left { (needs : List Need)

@@ -6,13 +6,15 @@ ghost use Rattle.machine.specs.Events.{IsQuiet};
 ghost use Rattle.machine.specs.Replays.{owns};
 ghost use Rattle.machine.specs.States.{quantum_turns};
 ghost use Rattle.machine.specs.Turns.{is_runnable};
-ghost use Rattle.session_kits.specs.Kits.{AreLive, HasHarts};
+ghost use Rattle.session_pairs.specs.SampledPairs.{AreLive, HasHarts};
 ghost use Rattle.session.specs.Tables.{CanSample, table_armed, table_freed, table_handed, table_judged, table_next, table_quiet, table_sampled, table_turned};
 
 use instrumented::InstrumentedMachine;
 use machine::Sample;
 use pn_types::HartNo;
-use session_kits::{Kits, arm_kits, drop_tests, hand_out, mark_ticks, sample_kits, sweep};
+use session_pairs::{
+    SampledPairs, arm_pairs, drop_tests, hand_out, mark_ticks, sample_pairs, sweep,
+};
 use session_spec::{LatestSample, RefusedWish};
 use std::marker::Model;
 use w3_search::{NodeSample, Search};
@@ -25,7 +27,7 @@ pub(crate) struct Desk {
     pub(crate) machine: InstrumentedMachine,
     pub(crate) refused: Vec<RefusedWish>,
     // What is or was shown, in the order of its admission.
-    pub(crate) kits: Kits,
+    pub(crate) pairs: SampledPairs,
     pub(crate) search: Search,
     // The samples of the last time that any were taken: of what was wished, and of the nodes under test.
     pub(crate) latest: Vec<LatestSample>,
@@ -62,8 +64,8 @@ impl Model for Desk {
     ghost view = { λ d. record {
       machine = d.machine;
       refused = d.refused.items;
-      kits = d.kits.all.items;
-      live = d.kits.live.items;
+      pairs = d.pairs.all.items;
+      live = d.pairs.live.items;
       search = d.search;
       latest = d.latest.items;
       tests = d.tests.items;
@@ -80,8 +82,8 @@ impl Model for Desk {
     } };
 
     ghost invariant = { λ d. (vec_len d.refused + d.room ≤ vec_capacity d.refused)
-        × (vec_len d.kits.all + d.room ≤ vec_capacity d.kits.all) × (vec_len d.kits.live + d.room ≤ vec_capacity d.kits.live)
-        × (vec_len d.kits.all + d.room ≤ vec_capacity d.latest) × (vec_len d.kits.all + d.room ≤ vec_capacity d.tests) };
+        × (vec_len d.pairs.all + d.room ≤ vec_capacity d.pairs.all) × (vec_len d.pairs.live + d.room ≤ vec_capacity d.pairs.live)
+        × (vec_len d.pairs.all + d.room ≤ vec_capacity d.latest) × (vec_len d.pairs.all + d.room ≤ vec_capacity d.tests) };
 }
 
 // Its drop is a function of its own, so that callers need not prove the drops of all its parts.
@@ -90,7 +92,7 @@ impl Drop for Desk {
         let Desk {
             machine: _,
             refused: _,
-            kits: _,
+            pairs: _,
             search: _,
             latest: _,
             tests: _,
@@ -125,8 +127,8 @@ impl Desk {
         requires time { self.old.time < 2 ^ 63 }
         requires idle { self.old.idle < 2 ^ 63 }
         ensures table { self.new ≡ table_turned hart most self.old }
-        ensures live { AreLive self.old.machine.state.placer self.old.kits self.old.live
-            → AreLive self.new.machine.state.placer self.new.kits self.new.live }
+        ensures live { AreLive self.old.machine.state.placer self.old.pairs self.old.live
+            → AreLive self.new.machine.state.placer self.new.pairs self.new.live }
         ensures owns { result ≡ length (owns (quantum_turns most hart self.old.machine.state.core) self.old.machine.state.core) }
         ensures harts { length self.new.machine.state.core.harts ≡ length self.old.machine.state.core.harts }
         ensures later { self.new.time < self.old.time + 2 ^ 32 }
@@ -141,8 +143,8 @@ impl Desk {
     /// Hands out eight entries of the agenda.
     #[inline(always)]
     pub(crate) fn hand_out(&mut self)
-        requires live { AreLive self.old.machine.state.placer self.old.kits self.old.live }
-        ensures live { AreLive self.new.machine.state.placer self.new.kits self.new.live }
+        requires live { AreLive self.old.machine.state.placer self.old.pairs self.old.live }
+        ensures live { AreLive self.new.machine.state.placer self.new.pairs self.new.live }
         ensures table { self.new ≡ table_handed self.old }
         ensures harts { self.new.machine.state.core.harts ≡ self.old.machine.state.core.harts }
     {
@@ -154,8 +156,8 @@ impl Desk {
         requires time { self.old.time < 2 ^ 63 }
         requires idle { self.old.idle < 2 ^ 63 }
         ensures table { self.new ≡ table_quiet self.old }
-        ensures live { AreLive self.old.machine.state.placer self.old.kits self.old.live
-            → AreLive self.new.machine.state.placer self.new.kits self.new.live }
+        ensures live { AreLive self.old.machine.state.placer self.old.pairs self.old.live
+            → AreLive self.new.machine.state.placer self.new.pairs self.new.live }
         ensures quiet { IsQuiet self.new.machine.state.core }
         ensures harts { length self.new.machine.state.core.harts ≡ length self.old.machine.state.core.harts }
         ensures later { self.new.time < self.old.time + 2 ^ 32 }
@@ -176,16 +178,16 @@ impl Desk {
         requires later { self.old.last < self.old.time }
         ensures table { self.new ≡ table_sampled self.old }
         ensures still { self.new.machine ≡ self.old.machine }
-        ensures live { AreLive self.new.machine.state.placer self.new.kits self.new.live }
-        ensures harts { AllByRecursion (HasHarts (length self.old.machine.state.core.harts)) self.new.kits }
+        ensures live { AreLive self.new.machine.state.placer self.new.pairs self.new.live }
+        ensures harts { AllByRecursion (HasHarts (length self.old.machine.state.core.harts)) self.new.pairs }
     {
         self.latest.clear();
         self.tests.clear();
-        sample_kits(
+        sample_pairs(
             &self.machine,
             self.time,
             &self.marks,
-            &mut self.kits,
+            &mut self.pairs,
             &mut self.latest,
             &mut self.tests,
             &mut self.sample,
@@ -201,45 +203,45 @@ impl Desk {
     /// inside a trampoline.
     pub(crate) fn free(&mut self)
         requires quiet { IsQuiet self.old.machine.state.core }
-        requires live { AreLive self.old.machine.state.placer self.old.kits self.old.live }
-        ensures live { AreLive self.new.machine.state.placer self.new.kits self.new.live }
+        requires live { AreLive self.old.machine.state.placer self.old.pairs self.old.live }
+        ensures live { AreLive self.new.machine.state.placer self.new.pairs self.new.live }
         ensures table { self.new ≡ table_freed self.old }
         ensures harts { self.new.machine.state.core.harts ≡ self.old.machine.state.core.harts }
         ensures quiet { IsQuiet self.new.machine.state.core }
     {
         let entries = self.machine.agenda_len();
         sweep(&mut self.machine, entries);
-        self.kits.forget_gone(&self.machine);
+        self.pairs.forget_gone(&self.machine);
     }
 
     /// Arms what is being placed and has all its sites linked. No hart is inside a trampoline.
     pub(crate) fn arm(&mut self)
         requires quiet { IsQuiet self.old.machine.state.core }
         requires places { self.old.places ≡ length self.old.machine.state.core.harts }
-        requires harts { AllByRecursion (HasHarts (length self.old.machine.state.core.harts)) self.old.kits }
-        requires live { AreLive self.old.machine.state.placer self.old.kits self.old.live }
-        ensures live { AreLive self.new.machine.state.placer self.new.kits self.new.live }
+        requires harts { AllByRecursion (HasHarts (length self.old.machine.state.core.harts)) self.old.pairs }
+        requires live { AreLive self.old.machine.state.placer self.old.pairs self.old.live }
+        ensures live { AreLive self.new.machine.state.placer self.new.pairs self.new.live }
         ensures table { self.new ≡ table_armed self.old }
         ensures harts { length self.new.machine.state.core.harts ≡ length self.old.machine.state.core.harts }
     {
-        arm_kits(
+        arm_pairs(
             &mut self.machine,
             self.time,
-            &mut self.kits,
+            &mut self.pairs,
             &mut self.sample,
         );
     }
 
     /// Tells the search of the samples of its nodes, and drops the instruments of those whose tests ended.
     pub(crate) fn judge(&mut self)
-        requires live { AreLive self.old.machine.state.placer self.old.kits self.old.live }
-        ensures live { AreLive self.new.machine.state.placer self.new.kits self.new.live }
+        requires live { AreLive self.old.machine.state.placer self.old.pairs self.old.live }
+        ensures live { AreLive self.new.machine.state.placer self.new.pairs self.new.live }
         ensures table { self.new ≡ table_judged self.old }
         ensures core { self.new.machine.state.core ≡ self.old.machine.state.core }
     {
         // What this returns is read again below, where the search is shared.
         let _drops = self.search.on_sample(self.time, &self.tests);
-        drop_tests(&mut self.machine, &self.kits, self.search.drops());
+        drop_tests(&mut self.machine, &self.pairs, self.search.drops());
     }
 
     /// Sets when work is due next: at the least multiple of the width above the time.

@@ -5,8 +5,8 @@ ghost use Rattle.rv_mem.specs.Start.{program_of};
 ghost use Rattle.machine.specs.Cores.{In};
 ghost use Rattle.prim_code.specs.Counts.{predicted};
 ghost use Rattle.instrument.specs.Needs.{need_of};
-ghost use Rattle.session_kits.specs.Kits.{AreLive};
-ghost use Rattle.session.specs.Candidates.{IsCandidate, new_kit};
+ghost use Rattle.session_pairs.specs.SampledPairs.{AreLive};
+ghost use Rattle.session.specs.Candidates.{IsCandidate, new_pair};
 ghost use Rattle.session.specs.Outcomes.{IsFailed, IsInstrumented, IsAdmissionStep};
 
 use crate::candidate::Candidate;
@@ -16,21 +16,21 @@ use crate::inputs::Inputs;
 use instrument::InstrumentNo;
 use pn_types::Plan;
 use prim_code::predicted;
-use session_kits::Kit;
+use session_pairs::SampledPair;
 use session_spec::MetricFocusPair;
 use std::alloc::Global;
 
 /// Returns the pair of an instrument that was admitted with this plan and isn't armed yet.
-fn new_kit(inputs: &Inputs, plan: &Plan, candidate: Candidate, number: InstrumentNo) -> Kit
+fn new_pair(inputs: &Inputs, plan: &Plan, candidate: Candidate, number: InstrumentNo) -> SampledPair
     requires { predicted plan.now < 2 ^ 32 }
-    ensures { result ≡ new_kit inputs.now plan.now candidate number }
+    ensures { result ≡ new_pair inputs.now plan.now candidate number }
 {
     let (first, count) = inputs.tree.harts(&candidate.focus);
     let cost = match candidate.node {
         Some(_) => predicted(plan),
         None => 0,
     };
-    Kit {
+    SampledPair {
         shown: MetricFocusPair {
             instrument: number,
             node: candidate.node,
@@ -66,13 +66,13 @@ impl Desk {
         requires program { self.old.machine.state.core.program ≡ program_of inputs.now.image }
         requires candidate { IsCandidate inputs.now plan.now candidate }
         requires ready { In (need_of plan.now) self.old.machine.ready }
-        requires live { AreLive self.old.machine.state.placer self.old.kits self.old.live }
+        requires live { AreLive self.old.machine.state.placer self.old.pairs self.old.live }
         ensures ok { IfOk result (IsInstrumented inputs.now plan.now candidate limit self.old self.new) }
         ensures err { IfErr result (IsFailed plan.now candidate.fault limit self.old self.new) }
         ensures step { IsAdmissionStep inputs.now plan.now self.old self.new }
         ensures same { self.new ≡ record self.old {
           machine = self.new.machine;
-          kits = self.new.kits;
+          pairs = self.new.pairs;
           live = self.new.live;
           room = self.new.room;
         } }
@@ -83,7 +83,7 @@ impl Desk {
         match self.machine.admit(alloc, plan, limit) {
             Ok(number) => {
                 self.room -= 1;
-                self.kits.put(new_kit(inputs, plan, candidate, number));
+                self.pairs.put(new_pair(inputs, plan, candidate, number));
                 Ok(number)
             }
             Err(refused) => Err(Failure::Refused(refused)),

@@ -19,7 +19,7 @@ use instrumented::InstrumentedMachine;
 use machine::Sample;
 use mdl_ast::{Constraint, Metric};
 use pn_types::{NoMemory, Plan, Seq};
-use session_kits::Kits;
+use session_pairs::SampledPairs;
 use std::alloc::Global;
 use w3_search::Search;
 
@@ -74,7 +74,7 @@ impl Desk {
         Desk {
             machine,
             refused: Vec::new(alloc),
-            kits: Kits {
+            pairs: SampledPairs {
                 all: Vec::new(alloc),
                 live: Vec::new(alloc),
             },
@@ -138,9 +138,9 @@ impl Desk {
         let more = plans.len();
         self.room = 0;
         self.refused.reserve(more)?;
-        self.kits.all.reserve(more)?;
-        self.kits.live.reserve(more)?;
-        let all = self.kits.all.len() + more;
+        self.pairs.all.reserve(more)?;
+        self.pairs.live.reserve(more)?;
+        let all = self.pairs.all.len() + more;
         self.latest.reserve(all)?;
         self.tests.reserve(all)?;
         self.machine.reserve(alloc, plans)?;

@@ -3,7 +3,7 @@
 ghost use Rattle.std.specs.Prelude.{◌≡◌, ◌≤◌, ◌<◌, IfOk, Some, length, map, slice_get};
 ghost use Rattle.std.specs.Option.{option_map};
 ghost use Rattle.session.specs.Parts.{metric_of, name_of, refused_part, shown_part, units_of};
-ghost use Rattle.session.specs.Seen.{hart_seen, kit_parts, table_parts};
+ghost use Rattle.session.specs.Seen.{hart_seen, pair_parts, table_parts};
 
 use crate::desk::Desk;
 use crate::inputs::Inputs;
@@ -13,8 +13,8 @@ use instrumented::InstrumentedMachine;
 use mdl_ast::Metric;
 use pn_types::{HartNo, MAX_HARTS, NoMemory, Seq, Settings, Text};
 use report::{HartPart, RefusedPart, ReportParts, ShownPart, hart_end};
-use session_kits::Kit;
-use session_spec::{RefusedWish, MetricFocusPair};
+use session_pairs::SampledPair;
+use session_spec::{MetricFocusPair, RefusedWish};
 use std::alloc::Global;
 
 /// Returns what a report shows of a hart.
@@ -129,13 +129,17 @@ fn shown_part(
 }
 
 /// Returns what a report shows of each pair that was wished and is or was shown.
-fn shown_parts(alloc: Global, inputs: &Inputs, kits: &[Kit]) -> Result<Vec<ShownPart>, NoMemory>
-    ensures { IfOk result (λ parts. parts.items ≡ kit_parts inputs.now kits.now) }
+fn shown_parts(
+    alloc: Global,
+    inputs: &Inputs,
+    pairs: &[SampledPair],
+) -> Result<Vec<ShownPart>, NoMemory>
+    ensures { IfOk result (λ parts. parts.items ≡ pair_parts inputs.now pairs.now) }
 {
     let mut parts = Vec::new(alloc);
-    for kit in kits {
-        if let Some(hist) = &kit.hist {
-            parts.push(shown_part(alloc, inputs, &kit.shown, hist)?)?;
+    for pair in pairs {
+        if let Some(hist) = &pair.hist {
+            parts.push(shown_part(alloc, inputs, &pair.shown, hist)?)?;
         }
     }
     Ok(parts)
@@ -157,7 +161,7 @@ pub(crate) fn desk_parts(
         samples: desk.samples,
         output: Text::from_vec(output),
         refused: Seq::from_vec(refused_parts(alloc, inputs, desk.refused.as_slice())?),
-        shown: Seq::from_vec(shown_parts(alloc, inputs, desk.kits.all.as_slice())?),
+        shown: Seq::from_vec(shown_parts(alloc, inputs, desk.pairs.all.as_slice())?),
         search: search_part(alloc, inputs, desk.search.nodes())?,
     })
 }

@@ -10,7 +10,7 @@ ghost use Rattle.instrument.specs.Needs.{need_of};
 ghost use Rattle.w3_search.specs.Nodes.{is_waiting};
 ghost use Rattle.w3_search.specs.Steps.{Waits};
 ghost use Rattle.session_spec.specs.Tests.{barred, with_node, with_nodes};
-ghost use Rattle.session_kits.specs.Kits.{AreLive};
+ghost use Rattle.session_pairs.specs.SampledPairs.{AreLive};
 ghost use Rattle.session.specs.Contenders.{AreContenders, HasCost, IsContender, IsOneChanged, counted, force_in, candidate_number, numbers_in};
 ghost use Rattle.session.specs.Outcomes.{IsAdmissionStep};
 ghost use Rattle.session.specs.Tables.{AreReady, IsMore, IsStill, kept_of};
@@ -22,33 +22,33 @@ use crate::inputs::Inputs;
 use instrument::State;
 use pn_types::{BarCause, Plan};
 use prim_code::predicted;
-use session_kits::Kit;
+use session_pairs::SampledPair;
 use std::alloc::Global;
 use std::collections::VecDeque;
 use w3_search::NodeState;
 
 impl Desk {
     /// Returns what a pair adds to the costs in force, in words.
-    fn counted(&self, kit: &Kit) -> u64
-        ensures { result ≡ counted self.now.machine.state.placer kit.now }
+    fn counted(&self, pair: &SampledPair) -> u64
+        ensures { result ≡ counted self.now.machine.state.placer pair.now }
     {
-        if matches!(self.machine.state(kit.shown.instrument), State::Gone) {
+        if matches!(self.machine.state(pair.shown.instrument), State::Gone) {
             return 0;
         }
-        kit.cost
+        pair.cost
     }
 
     /// Returns the costs in force of the search, in words.
     pub(crate) fn in_force(&self) -> u64
-        requires few { length self.now.kits < 2 ^ 31 }
-        requires low { AllByRecursion (λ k. k.cost < 2 ^ 32) self.now.kits }
-        requires live { AreLive self.now.machine.state.placer self.now.kits self.now.live }
-        ensures force { result ≡ force_in self.now.machine.state.placer self.now.kits }
+        requires few { length self.now.pairs < 2 ^ 31 }
+        requires low { AllByRecursion (λ k. k.cost < 2 ^ 32) self.now.pairs }
+        requires live { AreLive self.now.machine.state.placer self.now.pairs self.now.live }
+        ensures force { result ≡ force_in self.now.machine.state.placer self.now.pairs }
         ensures bound { result < 2 ^ 63 }
     {
         let mut force = 0;
-        for place in &self.kits.live {
-            force += self.counted(&self.kits.all[*place]);
+        for place in &self.pairs.live {
+            force += self.counted(&self.pairs.all[*place]);
         }
         force
     }
@@ -89,14 +89,14 @@ impl Desk {
         requires program { self.old.machine.state.core.program ≡ program_of inputs.now.image }
         requires contender { IsContender inputs.now self.old.search.nodes plan.now candidate }
         requires ready { In (need_of plan.now) self.old.machine.ready }
-        requires live { AreLive self.old.machine.state.placer self.old.kits self.old.live }
-        requires costs { AllByRecursion (HasCost inputs.now) self.old.kits }
-        requires few { length self.old.kits + 1 < 2 ^ 31 }
-        requires force { force ≡ force_in self.old.machine.state.placer self.old.kits }
+        requires live { AreLive self.old.machine.state.placer self.old.pairs self.old.live }
+        requires costs { AllByRecursion (HasCost inputs.now) self.old.pairs }
+        requires few { length self.old.pairs + 1 < 2 ^ 31 }
+        requires force { force ≡ force_in self.old.machine.state.placer self.old.pairs }
         ensures kept { (ws : List CheckedWish) → kept_of ws self.new ≡ with_node inputs.now (candidate_number candidate) (kept_of ws self.old) }
         ensures step { IsAdmissionStep inputs.now plan.now self.old self.new }
         ensures search { IsOneChanged (candidate_number candidate) self.old.search self.new.search }
-        ensures force { result ≡ force_in self.new.machine.state.placer self.new.kits }
+        ensures force { result ≡ force_in self.new.machine.state.placer self.new.pairs }
     {
         let Some(node) = candidate.node else {
             return force;
@@ -134,14 +134,14 @@ impl Desk {
         requires program { self.old.machine.state.core.program ≡ program_of inputs.now.image }
         requires each { AreContenders inputs.now self.old.search.nodes plans.now candidates.items }
         requires ready { AreReady (map need_of plans.now) self.old.machine.ready }
-        requires live { AreLive self.old.machine.state.placer self.old.kits self.old.live }
-        requires few { length self.old.kits + length plans.now < 2 ^ 31 }
-        requires costs { AllByRecursion (HasCost inputs.now) self.old.kits }
+        requires live { AreLive self.old.machine.state.placer self.old.pairs self.old.live }
+        requires few { length self.old.pairs + length plans.now < 2 ^ 31 }
+        requires costs { AllByRecursion (HasCost inputs.now) self.old.pairs }
         ensures kept { (ws : List CheckedWish)
             → kept_of ws self.new ≡ with_nodes inputs.now (numbers_in candidates.items) (kept_of ws self.old) }
-        ensures kits { IsMore inputs.now self.old.kits self.new.kits }
-        ensures few { length self.new.kits ≤ length self.old.kits + length plans.now }
-        ensures live { AreLive self.new.machine.state.placer self.new.kits self.new.live }
+        ensures pairs { IsMore inputs.now self.old.pairs self.new.pairs }
+        ensures few { length self.new.pairs ≤ length self.old.pairs + length plans.now }
+        ensures live { AreLive self.new.machine.state.placer self.new.pairs self.new.live }
         ensures still { IsStill self.old self.new }
     {
         let mut candidates = candidates;

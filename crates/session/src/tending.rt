@@ -5,12 +5,12 @@ ghost use Rattle.std.specs.List.{AllByRecursion};
 ghost use Rattle.machine.specs.Events.{IsQuiet};
 ghost use Rattle.machine.specs.Replays.{owns};
 ghost use Rattle.machine.specs.States.{quantum_turns};
-ghost use Rattle.session_kits.specs.Kits.{AreLive, HasHarts};
+ghost use Rattle.session_pairs.specs.SampledPairs.{AreLive, HasHarts};
 ghost use Rattle.session.specs.Tables.{CanSample, table_closed, table_opened, table_tended, table_worked};
 
 use crate::desk::Desk;
 use pn_types::HartNo;
-use session_kits::hand_out;
+use session_pairs::hand_out;
 
 impl Desk {
     /// Does the work that is due: it settles, samples, frees, arms and judges.
@@ -25,7 +25,7 @@ impl Desk {
         ensures harts { length self.new.machine.state.core.harts ≡ length self.old.machine.state.core.harts }
         ensures later { self.new.time < self.old.time + 2 ^ 32 }
         ensures soon { self.new.last < self.new.due }
-        ensures live { AreLive self.new.machine.state.placer self.new.kits self.new.live }
+        ensures live { AreLive self.new.machine.state.placer self.new.pairs self.new.live }
     {
         self.settle();
         self.sample();
@@ -51,7 +51,7 @@ impl Desk {
         ensures later { self.new.time < self.old.time + 2 ^ 33 }
         ensures idle { self.new.idle ≤ self.old.idle + most }
         ensures soon { self.new.last < self.new.due }
-        ensures live { AreLive self.new.machine.state.placer self.new.kits self.new.live }
+        ensures live { AreLive self.new.machine.state.placer self.new.pairs self.new.live }
     {
         let owns = self.turn(hart, most);
         self.hand_out();
@@ -71,7 +71,7 @@ impl Desk {
         ensures quiet { IsQuiet self.new.machine.state.core }
         ensures harts { length self.new.machine.state.core.harts ≡ length self.old.machine.state.core.harts }
         ensures later { self.new.time < self.old.time + 2 ^ 32 }
-        ensures live { AreLive self.new.machine.state.placer self.new.kits self.new.live }
+        ensures live { AreLive self.new.machine.state.placer self.new.pairs self.new.live }
     {
         self.settle();
         if self.last < self.time {
@@ -85,9 +85,9 @@ impl Desk {
     pub(crate) fn open(&mut self)
         requires quiet { IsQuiet self.old.machine.state.core }
         requires places { self.old.places ≡ length self.old.machine.state.core.harts }
-        requires harts { AllByRecursion (HasHarts (length self.old.machine.state.core.harts)) self.old.kits }
-        requires live { AreLive self.old.machine.state.placer self.old.kits self.old.live }
-        ensures live { AreLive self.new.machine.state.placer self.new.kits self.new.live }
+        requires harts { AllByRecursion (HasHarts (length self.old.machine.state.core.harts)) self.old.pairs }
+        requires live { AreLive self.old.machine.state.placer self.old.pairs self.old.live }
+        ensures live { AreLive self.new.machine.state.placer self.new.pairs self.new.live }
         ensures table { self.new ≡ table_opened self.old }
         ensures harts { length self.new.machine.state.core.harts ≡ length self.old.machine.state.core.harts }
     {

@@ -4,7 +4,7 @@
 mod data;
 mod laws;
 
-pub use data::{LatestSample, RefusedWish, MetricFocusPair};
+pub use data::{LatestSample, MetricFocusPair, RefusedWish};
 pub use laws::{
     bars_told, bins_told, costs_stay, feed_told, opens_at_zero, printed_told, runs_told,
     samples_read, verdicts_told,

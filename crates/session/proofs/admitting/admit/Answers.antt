@@ -25,4 +25,4 @@ returns-clause-ok c =
     let worked = sym (ap (λ (t : Table). t.worked) c.desk.view_is) ∙ c.if-not-desk.false in
     let count = subst (λ (t : Table). IsCount t.time c.args.wishes.now c.count_due-due.result) c.desk.view_is c.count_due-due.ensures in
     let e = c.in_ok-admit.ensures in
-    one_admission c.args.inputs.now c.args.wishes.now c.count_due-due.result c.args.desk.now c.admit.new.self c.rest.new.self worked count e.kept e.kits e.few e.still e.live c.rest.ensures
+    one_admission c.args.inputs.now c.args.wishes.now c.count_due-due.result c.args.desk.now c.admit.new.self c.rest.new.self worked count e.kept e.pairs e.few e.still e.live c.rest.ensures

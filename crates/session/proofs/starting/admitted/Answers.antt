@@ -40,8 +40,8 @@ returns-clause-admitted c =
     let all = c.as_slice.ensures ∙ ap (λ (x : Inputs). x.checked.wishes) c.inputs.view_is in
     let first : c.deref.result.now ≡ first_wishes i = c.deref.ensures.value ∙ (c.in_ok-wishes.ensures ∙ ap wishes_at_0 all) in
     let d = c.in_ok-desk.desk in
-    wished_is i d c.admit.new.self c.in_ok-desk.ensures.first c.requires.given c.in_ok-desk.ensures.narrow (λ ws. e.kept ws ∙ ap (λ l. with_tests i (with_all i l (kept_of ws d))) first) e.kits
-    (subst (λ (l : List CheckedWish). length c.admit.new.self.kits ≤ length d.kits + length l + taken_at_once) first e.few) e.live e.still c.in_ok-desk.ensures.program
+    wished_is i d c.admit.new.self c.in_ok-desk.ensures.first c.requires.given c.in_ok-desk.ensures.narrow (λ ws. e.kept ws ∙ ap (λ l. with_tests i (with_all i l (kept_of ws d))) first) e.pairs
+    (subst (λ (l : List CheckedWish). length c.admit.new.self.pairs ≤ length d.pairs + length l + taken_at_once) first e.few) e.live e.still c.in_ok-desk.ensures.program
 
 pub returns-clause-picked : goal.returns-clause-picked
 returns-clause-picked c =

@@ -10,8 +10,8 @@ use Rattle.session_spec.specs.Opening.{with_all}
 use Rattle.session_spec.specs.States.{SessionState}
 use Rattle.session_spec.specs.Tests.{in_force, with_nodes, with_tests}
 use Rattle.session_spec.specs.Rosters.{AreBelow}
-use Rattle.session_kits.specs.declared.kit.Kit.{Kit}
-use Rattle.session_kits.proofs.Dropped.{shown_in}
+use Rattle.session_pairs.specs.declared.pair.SampledPair.{SampledPair}
+use Rattle.session_pairs.proofs.Dropped.{shown_in}
 use Rattle.session.specs.Candidates.{AreOfWishes}
 use Rattle.session.specs.Contenders.{AreContenders, numbers_in, queue_of}
 use Rattle.session.specs.Tables.{IsMore, Table, kept_of}
@@ -73,12 +73,12 @@ take_nodes-requires-clause-few c =
     let back = ap (λ (l : List Plan). length l) (c.split_at.ensures.back ∙ (ap (drop (length c.args.wishes.now)) c.deref-2.ensures.value ∙ p.back)) in
     let e = c.in_ok-contenders.ensures in
     let few = contenders_few i c.least_force-force.result t.observed t.search (drop (length c.in_ok-plans.field-0.plans.items) c.prepare_nodes.new.plans.items) c.in_ok-contenders.contenders.items e.each e.queue in
-    omega (arith, back, few, ap (λ (x : Table). length x.kits) c.in_ok-reserve.ensures.same, c.consider_all.ensures.few, c.requires.few)
+    omega (arith, back, few, ap (λ (x : Table). length x.pairs) c.in_ok-reserve.ensures.same, c.consider_all.ensures.few, c.requires.few)
 
 pub take_nodes-requires-clause-costs : goal.take_nodes-requires-clause-costs
 take_nodes-requires-clause-costs c =
-    let kits = ap (λ (t : Table). t.kits) c.in_ok-reserve.ensures.same in
-    more_costs c.args.inputs.now c.args.self.now.kits c.consider_all.new.self.kits c.requires.costs (subst (λ (l : List Kit). IsMore c.args.inputs.now l c.consider_all.new.self.kits) kits c.consider_all.ensures.kits)
+    let pairs = ap (λ (t : Table). t.pairs) c.in_ok-reserve.ensures.same in
+    more_costs c.args.inputs.now c.args.self.now.pairs c.consider_all.new.self.pairs c.requires.costs (subst (λ (l : List SampledPair). IsMore c.args.inputs.now l c.consider_all.new.self.pairs) pairs c.consider_all.ensures.pairs)
 
 pub returns-clause-kept : goal.returns-clause-kept
 returns-clause-kept c ws =
@@ -93,8 +93,8 @@ returns-clause-kept c ws =
     let search : now.search ≡ t.search = c.consider_all.ensures.search ∙ ap (λ (x : Table). x.search) c.in_ok-reserve.ensures.same in
     let observed : now.observed ≡ t.observed = ap (λ (x : Table). x.observed) (c.consider_all.ensures.still).same ∙ ap (λ (x : Table). x.observed) c.in_ok-reserve.ensures.same in
     let kept : k ≡ with_all i wishes (kept_of ws t) = c.consider_all.ensures.kept ws ∙ ap (λ (x : Table). with_all i wishes (kept_of ws x)) c.in_ok-reserve.ensures.same in
-    let least : force ≡ cond (list_all (λ (w : CheckedWish). w.show) wishes) (in_force i t.machine.state.placer (shown_in t.kits)) 0 =
-    c.least_force-force.ensures.least ∙ ap (λ n. cond (list_all (λ (w : CheckedWish). w.show) wishes) n 0) (force_is i t.machine.state.placer t.kits c.requires.costs) in
+    let least : force ≡ cond (list_all (λ (w : CheckedWish). w.show) wishes) (in_force i t.machine.state.placer (shown_in t.pairs)) 0 =
+    c.least_force-force.ensures.least ∙ ap (λ n. cond (list_all (λ (w : CheckedWish). w.show) wishes) n 0) (force_is i t.machine.state.placer t.pairs c.requires.costs) in
     let below = subst (λ (x : SessionState). AreBelow x.machine.placer.count x.shown) kept (c.consider_all.ensures.live).below in
     let has = subst (HasForce i force) (sym kept) (least_force i wishes (kept_of ws t) force least (c.requires.live).below below) in
     let out = left_out i force t.search.nodes queue ms k c.in_ok-contenders.ensures.queue (behind_first i force t.search.nodes k has (ap (λ (v : SearchData). v.nodes) search)) in
@@ -111,4 +111,4 @@ returns-clause-few c =
     let back = ap (λ (l : List Plan). length l) (c.split_at.ensures.back ∙ (ap (drop (length c.args.wishes.now)) c.deref-2.ensures.value ∙ p.back)) in
     let e = c.in_ok-contenders.ensures in
     let few = contenders_few i c.least_force-force.result t.observed t.search (drop (length c.in_ok-plans.field-0.plans.items) c.prepare_nodes.new.plans.items) c.in_ok-contenders.contenders.items e.each e.queue in
-    omega (arith, back, few, ap (λ (x : Table). length x.kits) c.in_ok-reserve.ensures.same, c.consider_all.ensures.few, c.take_nodes.ensures.few)
+    omega (arith, back, few, ap (λ (x : Table). length x.pairs) c.in_ok-reserve.ensures.same, c.consider_all.ensures.few, c.take_nodes.ensures.few)

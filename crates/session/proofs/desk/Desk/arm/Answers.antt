@@ -1,17 +1,17 @@
 use Rattle.std.proofs.Common.{◌≡◌, ℕ, List, ap, sym, subst}
 use Rattle.instrumented.specs.Data.{InstrumentedData}
-use Rattle.session_kits.specs.declared.kit.Kit.{Kit}
-use Rattle.session_kits.specs.Kits.{AreLive, kits_armed}
-use Rattle.session_kits.proofs.Live.{live_arms}
+use Rattle.session_pairs.specs.declared.pair.SampledPair.{SampledPair}
+use Rattle.session_pairs.specs.SampledPairs.{AreLive, pairs_armed}
+use Rattle.session_pairs.proofs.Live.{live_arms}
 use Rattle.session.specs.Tables.{Table}
 use Rattle.session.proofs.desk.Desk.arm.Goals as goal
 
 pub returns-clause-live : goal.returns-clause-live
 returns-clause-live c =
     let s = c.self.inside in
-    let e = c.arm_kits.ensures in
-    let a = subst (λ (t : Table). AreLive t.machine.state.placer t.kits t.live) (sym c.self.view_is) c.requires.live in
-    let same : c.arm_kits.new.kits.live.items ≡ s.kits.live.items = ap (λ v. v.items) e.live in
-    subst (λ (l : List ℕ). AreLive c.arm_kits.new.machine.state.placer c.arm_kits.new.kits.all.items l) (sym same)
-    (subst (λ (ks : List Kit). AreLive c.arm_kits.new.machine.state.placer ks s.kits.live.items) (sym e.kits)
-    (subst (λ (d : InstrumentedData). AreLive d.state.placer (kits_armed s.time s.machine.state s.kits.all.items) s.kits.live.items) (sym e.machine) (live_arms s.time s.machine.state s.kits.all.items s.kits.live.items a)))
+    let e = c.arm_pairs.ensures in
+    let a = subst (λ (t : Table). AreLive t.machine.state.placer t.pairs t.live) (sym c.self.view_is) c.requires.live in
+    let same : c.arm_pairs.new.pairs.live.items ≡ s.pairs.live.items = ap (λ v. v.items) e.live in
+    subst (λ (l : List ℕ). AreLive c.arm_pairs.new.machine.state.placer c.arm_pairs.new.pairs.all.items l) (sym same)
+    (subst (λ (ks : List SampledPair). AreLive c.arm_pairs.new.machine.state.placer ks s.pairs.live.items) (sym e.pairs)
+    (subst (λ (d : InstrumentedData). AreLive d.state.placer (pairs_armed s.time s.machine.state s.pairs.all.items) s.pairs.live.items) (sym e.machine) (live_arms s.time s.machine.state s.pairs.all.items s.pairs.live.items a)))

@@ -3,9 +3,9 @@ use Rattle.tramp_spec.specs.Harts.{Hart}
 use Rattle.machine.specs.Events.{AreOutside, IsQuiet}
 use Rattle.instrument.specs.Scenes.{Sweeps}
 use Rattle.instrumented.specs.Data.{InstrumentedData}
-use Rattle.session_kits.specs.declared.kit.Kit.{Kit}
-use Rattle.session_kits.specs.Kits.{AreLive, live_of}
-use Rattle.session_kits.proofs.Live.{live_forgotten, live_repeated}
+use Rattle.session_pairs.specs.declared.pair.SampledPair.{SampledPair}
+use Rattle.session_pairs.specs.SampledPairs.{AreLive, live_of}
+use Rattle.session_pairs.proofs.Live.{live_forgotten, live_repeated}
 use Rattle.session.specs.Tables.{Table}
 use Rattle.session.proofs.desk.Desk.free.Goals as goal
 
@@ -21,9 +21,9 @@ pub returns-clause-live : goal.returns-clause-live
 returns-clause-live c =
     let s = c.self.inside in
     let e = c.forget_gone.ensures in
-    let a = subst (λ (t : Table). AreLive t.machine.state.placer t.kits t.live) (sym c.self.view_is) c.requires.live in
-    let swept : AreLive c.sweep.new.machine.state.placer s.kits.all.items s.kits.live.items =
-    subst (λ (d : InstrumentedData). AreLive d.state.placer s.kits.all.items s.kits.live.items) (sym c.sweep.ensures.machine) (live_repeated s.machine.state s.kits.all.items s.kits.live.items a c.agenda_len-entries.result Sweeps tt) in
-    let all : c.forget_gone.new.self.all.items ≡ s.kits.all.items = ap (λ v. v.items) e.all in
+    let a = subst (λ (t : Table). AreLive t.machine.state.placer t.pairs t.live) (sym c.self.view_is) c.requires.live in
+    let swept : AreLive c.sweep.new.machine.state.placer s.pairs.all.items s.pairs.live.items =
+    subst (λ (d : InstrumentedData). AreLive d.state.placer s.pairs.all.items s.pairs.live.items) (sym c.sweep.ensures.machine) (live_repeated s.machine.state s.pairs.all.items s.pairs.live.items a c.agenda_len-entries.result Sweeps tt) in
+    let all : c.forget_gone.new.self.all.items ≡ s.pairs.all.items = ap (λ v. v.items) e.all in
     subst (λ (l : List ℕ). AreLive c.sweep.new.machine.state.placer c.forget_gone.new.self.all.items l) (sym e.live)
-    (subst (λ (ks : List Kit). AreLive c.sweep.new.machine.state.placer ks (live_of c.sweep.new.machine.state.placer s.kits.all.items s.kits.live.items)) (sym all) (live_forgotten c.sweep.new.machine.state.placer s.kits.all.items s.kits.live.items swept))
+    (subst (λ (ks : List SampledPair). AreLive c.sweep.new.machine.state.placer ks (live_of c.sweep.new.machine.state.placer s.pairs.all.items s.pairs.live.items)) (sym all) (live_forgotten c.sweep.new.machine.state.placer s.pairs.all.items s.pairs.live.items swept))

@@ -1,13 +1,13 @@
 use Rattle.std.proofs.Common.{sym, subst}
 use Rattle.instrument.specs.Scenes.{Hands}
 use Rattle.instrumented.specs.Data.{InstrumentedData}
-use Rattle.session_kits.specs.Kits.{AreLive}
-use Rattle.session_kits.proofs.Live.{live_repeated}
+use Rattle.session_pairs.specs.SampledPairs.{AreLive}
+use Rattle.session_pairs.proofs.Live.{live_repeated}
 use Rattle.session.specs.Tables.{Table}
 use Rattle.session.proofs.desk.Desk.hand_out.Goals as goal
 
 pub returns-clause-live : goal.returns-clause-live
 returns-clause-live c =
     let s = c.self.inside in
-    let a = subst (λ (t : Table). AreLive t.machine.state.placer t.kits t.live) (sym c.self.view_is) c.requires.live in
-    subst (λ (d : InstrumentedData). AreLive d.state.placer s.kits.all.items s.kits.live.items) (sym c.hand_out.ensures.machine) (live_repeated s.machine.state s.kits.all.items s.kits.live.items a 8 Hands tt)
+    let a = subst (λ (t : Table). AreLive t.machine.state.placer t.pairs t.live) (sym c.self.view_is) c.requires.live in
+    subst (λ (d : InstrumentedData). AreLive d.state.placer s.pairs.all.items s.pairs.live.items) (sym c.hand_out.ensures.machine) (live_repeated s.machine.state s.pairs.all.items s.pairs.live.items a 8 Hands tt)

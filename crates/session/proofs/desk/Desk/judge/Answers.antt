@@ -1,13 +1,13 @@
 use Rattle.std.proofs.Common.{sym, subst}
 use Rattle.instrumented.specs.Data.{InstrumentedData}
-use Rattle.session_kits.specs.Kits.{AreLive}
-use Rattle.session_kits.proofs.Live.{live_drops}
+use Rattle.session_pairs.specs.SampledPairs.{AreLive}
+use Rattle.session_pairs.proofs.Live.{live_drops}
 use Rattle.session.specs.Tables.{Table, shown_in}
 use Rattle.session.proofs.desk.Desk.judge.Goals as goal
 
 pub returns-clause-live : goal.returns-clause-live
 returns-clause-live c =
     let s = c.self.inside in
-    let a = subst (λ (t : Table). AreLive t.machine.state.placer t.kits t.live) (sym c.self.view_is) c.requires.live in
-    subst (λ (d : InstrumentedData). AreLive d.state.placer s.kits.all.items s.kits.live.items) (sym c.drop_tests.ensures.machine)
-    (live_drops c.drops.result.now (shown_in s.kits.all.items) s.machine.state s.kits.all.items s.kits.live.items a)
+    let a = subst (λ (t : Table). AreLive t.machine.state.placer t.pairs t.live) (sym c.self.view_is) c.requires.live in
+    subst (λ (d : InstrumentedData). AreLive d.state.placer s.pairs.all.items s.pairs.live.items) (sym c.drop_tests.ensures.machine)
+    (live_drops c.drops.result.now (shown_in s.pairs.all.items) s.machine.state s.pairs.all.items s.pairs.live.items a)

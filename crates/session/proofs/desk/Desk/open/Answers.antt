@@ -1,14 +1,14 @@
 use Rattle.std.proofs.Common.{sym, subst}
 use Rattle.instrument.specs.Scenes.{Hands}
 use Rattle.instrumented.specs.Data.{InstrumentedData}
-use Rattle.session_kits.specs.Kits.{AreLive}
-use Rattle.session_kits.proofs.Live.{live_repeated}
+use Rattle.session_pairs.specs.SampledPairs.{AreLive}
+use Rattle.session_pairs.proofs.Live.{live_repeated}
 use Rattle.session.specs.Tables.{Table}
 use Rattle.session.proofs.desk.Desk.open.Goals as goal
 
 pub arm-requires-clause-live : goal.arm-requires-clause-live
 arm-requires-clause-live c =
     let s = c.self.inside in
-    let a = subst (λ (t : Table). AreLive t.machine.state.placer t.kits t.live) (sym c.self.view_is) c.requires.live in
-    subst (λ (d : InstrumentedData). AreLive d.state.placer s.kits.all.items s.kits.live.items) (sym c.hand_out.ensures.machine)
-    (live_repeated s.machine.state s.kits.all.items s.kits.live.items a c.agenda_len-entries.result Hands tt)
+    let a = subst (λ (t : Table). AreLive t.machine.state.placer t.pairs t.live) (sym c.self.view_is) c.requires.live in
+    subst (λ (d : InstrumentedData). AreLive d.state.placer s.pairs.all.items s.pairs.live.items) (sym c.hand_out.ensures.machine)
+    (live_repeated s.machine.state s.pairs.all.items s.pairs.live.items a c.agenda_len-entries.result Hands tt)

@@ -33,7 +33,7 @@ returns-in-Err-clause-kept c ws =
     let t = c.args.self.now in
     let new = c.instrument.new.self in
     let failed = c.in-Err.ensures.err in
-    let same = kept_same ws t new c.in-Err.ensures.same failed.machine failed.kits in
+    let same = kept_same ws t new c.in-Err.ensures.same failed.machine failed.pairs in
     c.refuse.ensures.kept ws
     ∙ (ap (λ o. with_refused o w (kept_of ws new)) c.pick_cause.ensures
     ∙ (ap (λ y. with_refused (pick_cause_of c.in-Err.failure) w y) same

@@ -13,9 +13,9 @@ use Rattle.w3_search.specs.Steps.{SearchData, with_state}
 use Rattle.session_spec.specs.Inputs.{Inputs}
 use Rattle.session_spec.specs.Searches.{rules_of}
 use Rattle.session_spec.specs.Tests.{barred, in_force, must_wait, with_node}
-use Rattle.session_kits.proofs.Dropped.{shown_in}
+use Rattle.session_pairs.proofs.Dropped.{shown_in}
 use Rattle.session.specs.declared.candidate.Candidate.{Candidate}
-use Rattle.session.specs.Candidates.{new_kit}
+use Rattle.session.specs.Candidates.{new_pair}
 use Rattle.session.specs.Contenders.{IsContender, force_in, candidate_number, number_or_none}
 use Rattle.session.specs.Outcomes.{IsFailed, IsInstrumented, bar_cause_of}
 use Rattle.session.specs.Tables.{Table, kept_of}
@@ -35,9 +35,9 @@ waits_as i t plan c x node waits e w =
     w ∙ (ap (λ n. option_map_or (λ (y : Node). is_waiting y.state) (slice_get t.search.nodes n) false) same ∙ ap (λ o. option_map_or (λ (y : Node). is_waiting y.state) o false) x.stands)
 
 -- what the code compares is what the definitions do
-waits_by : (i : Inputs) (t : Table) (plan : Plan) (limit words force : ℕ) (b : Bool) → limit ≡ (rules_of i).decl.cost → words ≡ predicted plan → force ≡ in_force i t.machine.state.placer (shown_in t.kits) → must_wait limit words force ≡ b
-    → must_wait (rules_of i).decl.cost (predicted plan) (in_force i t.machine.state.placer (shown_in t.kits)) ≡ b
-waits_by i t plan limit words force b l w f e = ap (λ n. must_wait n (predicted plan) (in_force i t.machine.state.placer (shown_in t.kits))) (sym l) ∙ (ap₂ (λ x y. must_wait limit x y) (sym w) (sym f) ∙ e)
+waits_by : (i : Inputs) (t : Table) (plan : Plan) (limit words force : ℕ) (b : Bool) → limit ≡ (rules_of i).decl.cost → words ≡ predicted plan → force ≡ in_force i t.machine.state.placer (shown_in t.pairs) → must_wait limit words force ≡ b
+    → must_wait (rules_of i).decl.cost (predicted plan) (in_force i t.machine.state.placer (shown_in t.pairs)) ≡ b
+waits_by i t plan limit words force b l w f e = ap (λ n. must_wait n (predicted plan) (in_force i t.machine.state.placer (shown_in t.pairs))) (sym l) ∙ (ap₂ (λ x y. must_wait limit x y) (sym w) (sym f) ∙ e)
 
 pub returns-then-not-waits-clause-kept : goal.returns-then-not-waits-clause-kept
 returns-then-not-waits-clause-kept c ws =
@@ -51,7 +51,7 @@ returns-then-not-waits-clause-kept c ws =
 pub must_wait-requires : goal.must_wait-requires
 must_wait-requires c =
     let t = c.args.self.now in
-    let low = force_low t.machine.state.placer t.kits (low_costs c.args.inputs.now t.kits c.requires.costs) (omega (arith, c.requires.few)) in
+    let low = force_low t.machine.state.placer t.pairs (low_costs c.args.inputs.now t.pairs c.requires.costs) (omega (arith, c.requires.few)) in
     omega (arith, low, c.requires.force, c.predicted-words.ensures, ((c.requires.contender).candidate).words)
 
 pub returns-then-must_wait-clause-kept : goal.returns-then-must_wait-clause-kept
@@ -63,7 +63,7 @@ returns-then-must_wait-clause-kept c ws =
     let x = c.requires.contender in
     let planned = planned_by i t plan c.args.candidate x None (no_fault c.args.candidate.fault c.if-is_none.ensures) in
     let limit = c.from-limit.ensures ∙ ap (λ (d : SearchDecl). d.cost) c.search_decl.ensures in
-    let force = c.requires.force ∙ force_is i t.machine.state.placer t.kits c.requires.costs in
+    let force = c.requires.force ∙ force_is i t.machine.state.placer t.pairs c.requires.costs in
     let waits = waits_by i t plan c.from-limit.result c.predicted-words.result c.args.force true limit c.predicted-words.ensures force (sym c.must_wait.ensures ∙ c.if-must_wait.true) in
     sym (subst (λ n. with_node i n k ≡ k) (sym (ap number_or_none (x.pair).node_is)) (must_stay i x.number k x.node x.stands plan planned.0 waits))
 
@@ -77,9 +77,9 @@ returns-in-Ok-clause-kept c ws =
     let new = c.instrument.new.self in
     let v = c.admitted.new.self in
     let limit = c.from-limit.ensures ∙ ap (λ (d : SearchDecl). d.cost) c.search_decl.ensures in
-    let force = c.requires.force ∙ force_is i t.machine.state.placer t.kits c.requires.costs in
+    let force = c.requires.force ∙ force_is i t.machine.state.placer t.pairs c.requires.costs in
     let waits = waits_as i t plan c.args.candidate x c.in-Some.node c.waits.result c.in-Some.is c.waits.ensures in
-    let needs : c.args.candidate.fault ≡ None → must_wait (rules_of i).decl.cost (predicted plan) (in_force i t.machine.state.placer (shown_in t.kits)) ≡ false =
+    let needs : c.args.candidate.fault ≡ None → must_wait (rules_of i).decl.cost (predicted plan) (in_force i t.machine.state.placer (shown_in t.pairs)) ≡ false =
     λ none. elim c.else-is_none.branch [
       | else-is_none-via-then-is_none+else-must_wait w ↦ waits_by i t plan c.from-limit.result c.predicted-words.result c.args.force false limit c.predicted-words.ensures force (sym w.must_wait.ensures ∙ w.if-must_wait.false)
       | else-is_none-via-else-is_none w ↦ absurd (true≢false (sym (c.is_none.ensures ∙ ap (λ b. not b) w.if-is_none.false) ∙ ap (λ (o : Option PlanFault). is_some o) none))
@@ -100,11 +100,11 @@ returns-in-Ok-clause-force c =
     let x = c.requires.contender in
     let new = c.instrument.new.self in
     let one = c.in-Ok.ensures.ok in
-    let k = new_kit c.args.inputs.now plan c.args.candidate c.in-Ok.field-0 in
+    let k = new_pair c.args.inputs.now plan c.args.candidate c.in-Ok.field-0 in
     let cost : k.cost ≡ predicted plan = ap (λ (o : Option ℕ). cond (is_some o) (predicted plan) 0) (x.pair).node_is in
-    let more = force_more p plan (Some c.from-limit.result) new.machine.state.placer t.kits k (c.requires.live).roster (c.requires.live).below one.placed one.number_is in
-    subst (λ (y : Table). c.args.force + c.predicted-words.result ≡ force_in y.machine.state.placer y.kits) (sym c.self.view_is)
-    (ap₂ (λ (a b : ℕ). a + b) c.requires.force (c.predicted-words.ensures ∙ sym cost) ∙ (sym more ∙ ap (force_in new.machine.state.placer) (sym one.kits)))
+    let more = force_more p plan (Some c.from-limit.result) new.machine.state.placer t.pairs k (c.requires.live).roster (c.requires.live).below one.placed one.number_is in
+    subst (λ (y : Table). c.args.force + c.predicted-words.result ≡ force_in y.machine.state.placer y.pairs) (sym c.self.view_is)
+    (ap₂ (λ (a b : ℕ). a + b) c.requires.force (c.predicted-words.ensures ∙ sym cost) ∙ (sym more ∙ ap (force_in new.machine.state.placer) (sym one.pairs)))
 
 pub returns-in-Err-clause-kept : goal.returns-in-Err-clause-kept
 returns-in-Err-clause-kept c ws =
@@ -115,15 +115,15 @@ returns-in-Err-clause-kept c ws =
     let x = c.requires.contender in
     let new = c.instrument.new.self in
     let limit = c.from-limit.ensures ∙ ap (λ (d : SearchDecl). d.cost) c.search_decl.ensures in
-    let force = c.requires.force ∙ force_is i t.machine.state.placer t.kits c.requires.costs in
+    let force = c.requires.force ∙ force_is i t.machine.state.placer t.pairs c.requires.costs in
     let waits = waits_as i t plan c.args.candidate x c.in-Some.node c.waits.result c.in-Some.is c.waits.ensures in
-    let needs : c.args.candidate.fault ≡ None → must_wait (rules_of i).decl.cost (predicted plan) (in_force i t.machine.state.placer (shown_in t.kits)) ≡ false =
+    let needs : c.args.candidate.fault ≡ None → must_wait (rules_of i).decl.cost (predicted plan) (in_force i t.machine.state.placer (shown_in t.pairs)) ≡ false =
     λ none. elim c.else-is_none.branch [
       | else-is_none-via-then-is_none+else-must_wait w ↦ waits_by i t plan c.from-limit.result c.predicted-words.result c.args.force false limit c.predicted-words.ensures force (sym w.must_wait.ensures ∙ w.if-must_wait.false)
       | else-is_none-via-else-is_none w ↦ absurd (true≢false (sym (c.is_none.ensures ∙ ap (λ b. not b) w.if-is_none.false) ∙ ap (λ (o : Option PlanFault). is_some o) none))
     ] in
     let failed = subst (λ n. IsFailed plan c.args.candidate.fault (Some n) t new c.in-Err.failure) limit c.in-Err.ensures.err in
-    let same = kept_same ws t new c.in-Err.ensures.same failed.machine failed.kits in
+    let same = kept_same ws t new c.in-Err.ensures.same failed.machine failed.pairs in
     let node : c.in-Some.node ≡ candidate_number c.args.candidate = ap number_or_none (sym c.in-Some.is) in
     let numbered : candidate_number c.args.candidate ≡ x.number = ap number_or_none (x.pair).node_is in
     c.bar.ensures.kept ws

@@ -1,8 +1,8 @@
 use Rattle.std.proofs.Common.{ap, arith, sym, subst}
 use Rattle.instrumented.specs.Data.{InstrumentedData}
 use Rattle.machine.specs.States.{quantum_turns}
-use Rattle.session_kits.specs.Kits.{AreLive}
-use Rattle.session_kits.proofs.Live.{live_taken}
+use Rattle.session_pairs.specs.SampledPairs.{AreLive}
+use Rattle.session_pairs.proofs.Live.{live_taken}
 use Rattle.machine.proofs.Quanta.{quanta_are_legal}
 use Rattle.session.specs.Tables.{Table}
 use Rattle.session.proofs.desk.Desk.turn.Goals as goal
@@ -20,6 +20,6 @@ returns-clause-idle c =
 pub returns-clause-live : goal.returns-clause-live
 returns-clause-live c live =
     let s = c.self.inside in
-    let a = subst (λ (t : Table). AreLive t.machine.state.placer t.kits t.live) (sym c.self.view_is) live in
-    subst (λ (d : InstrumentedData). AreLive d.state.placer s.kits.all.items s.kits.live.items) (sym c.take_turns-taken.ensures.taken)
-    (live_taken s.machine.state s.kits.all.items s.kits.live.items a (quantum_turns c.args.most c.args.hart s.machine.state.core))
+    let a = subst (λ (t : Table). AreLive t.machine.state.placer t.pairs t.live) (sym c.self.view_is) live in
+    subst (λ (d : InstrumentedData). AreLive d.state.placer s.pairs.all.items s.pairs.live.items) (sym c.take_turns-taken.ensures.taken)
+    (live_taken s.machine.state s.pairs.all.items s.pairs.live.items a (quantum_turns c.args.most c.args.hart s.machine.state.core))

@@ -30,7 +30,7 @@ pub returns-clause-run : goal.returns-clause-run
 returns-clause-run c =
     let s = c.self.inside in
     subst (λ (x : SessionData). IsRun x.inputs (state_of x)) c.self.view_is
-    (is_run s.inputs (state_at s.inputs s.quanta.items s.closed) (lasts_in s.desk.kits) c.self.invariant.0.state.sound)
+    (is_run s.inputs (state_at s.inputs s.quanta.items s.closed) (lasts_in s.desk.pairs) c.self.invariant.0.state.sound)
 
 pub returns-clause-history : goal.returns-clause-history
 returns-clause-history c =

@@ -37,7 +37,7 @@ admit_from-requires-clause-few c =
     omega arith
 
 pub admit_from-requires-clause-costs : goal.admit_from-requires-clause-costs
-admit_from-requires-clause-costs c = let s = c.self.inside in costs s.inputs s.desk.samples s.desk.kits c.self.invariant.0.kits
+admit_from-requires-clause-costs c = let s = c.self.inside in costs s.inputs s.desk.samples s.desk.pairs c.self.invariant.0.pairs
 
 -- ---- the turns
 
