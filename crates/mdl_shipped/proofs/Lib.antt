@@ -1,1 +1,3 @@
 pub mod ShippedSmall
+mod Lined
+mod Spelled

@@ -1,7 +1,8 @@
 //! The shipped configuration.
 #![tactic(auto)]
 
-mod parts;
+mod lines;
 mod shipping;
+mod text;
 
 pub use shipping::shipped;
