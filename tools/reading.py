@@ -73,8 +73,15 @@ def claimed():
     return found
 
 
+def words_of(definition):
+    """How many words and signs between blanks a definition has, without its comments."""
+    mark = "//" if definition.file.suffix == ".rt" else "--"
+    return sum(len(line.split(mark)[0].split()) for line in definition.lines)
+
+
 def page_of(sections):
-    total = sum(definition.count for _, order in sections for definition in order)
+    total = sum(words_of(definition) for _, order in sections for definition in order)
+    lines = sum(definition.count for _, order in sections for definition in order)
     many = sum(len(order) for _, order in sections)
     out = [
         "# What must be believed",
@@ -83,13 +90,14 @@ def page_of(sections):
         "they are listed here, for each command, first what stands nearest; what an earlier command had isn't listed again. Words of the",
         "standard library's own specs are not in it. `tools/reading.py` makes this page.",
         "",
-        f"**{total} lines** in {many} definitions. The number may fall; where it would rise, `tools/reading.py` fails.",
+        f"**{total} words** in {many} definitions, on {lines} lines. The number of words, which line breaks don't change, may fall; where it",
+        "would rise, `tools/reading.py` fails.",
         "",
-        "| | definitions | lines |",
+        "| | definitions | words |",
         "|---|---|---|",
     ]
     for title, order in sections:
-        out.append(f"| {title} | {len(order)} | {sum(d.count for d in order)} |")
+        out.append(f"| {title} | {len(order)} | {sum(map(words_of, order))} |")
     for title, order in sections:
         out += ["", f"## {title}", ""]
         if not order:
@@ -124,9 +132,9 @@ def main(words):
     page, total = page_of(sections)
     faults = faults_of(library, sections)
     old = PAGE.read_text(encoding="utf-8") if PAGE.is_file() else ""
-    before = re.search(r"\*\*(\d+) lines\*\*", old)
+    before = re.search(r"\*\*(\d+) words\*\*", old)
     if before and total > int(before[1]) and "--more" not in words:
-        faults.append(f"{total} lines must be believed, {before[1]} before")
+        faults.append(f"{total} words must be believed, {before[1]} before")
     if "--check" in words:
         if page != old:
             faults.append("docs/READING.md isn't what tools/reading.py writes")
@@ -134,7 +142,7 @@ def main(words):
         PAGE.write_text(page, encoding="utf-8")
     for fault in faults:
         print(fault, file=sys.stderr)
-    print(f"{total} lines must be believed")
+    print(f"{total} words must be believed")
     return 1 if faults else 0
 
 
