@@ -55,8 +55,9 @@ impl SampledPairs {
         ensures live_capacity { vec_capacity self.old.live ≤ vec_capacity self.new.live }
     {
         let place = self.all.len();
-        self.live.push_reserved(place);
-        self.all.push_reserved(pair);
+        // There is room, so neither can fail.
+        let _room = self.live.push(place);
+        let _room = self.all.push(pair);
     }
 
     /// Forgets tests whose instruments are gone, so that they cost nothing from now on.

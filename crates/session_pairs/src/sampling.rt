@@ -96,7 +96,8 @@ fn put_latest(list: &mut Vec<LatestSample>, node: Option<u32>, place: u32, bin: 
     ensures room { vec_capacity list.old ≤ vec_capacity list.new }
 {
     if let (None, Some(bin)) = (node, bin) {
-        list.push_reserved(LatestSample {
+        // There is room, so this can't fail.
+        let _room = list.push(LatestSample {
             shown: place,
             from: bin.from,
             to: bin.to,
@@ -127,7 +128,8 @@ fn put_test(
 {
     if let (Some(node), Some(bin)) = (node, bin) {
         let ticks = ticks_since(machine, marks, first, count);
-        list.push_reserved(NodeSample {
+        // There is room, so this can't fail.
+        let _room = list.push(NodeSample {
             node,
             from: bin.from,
             value: bin.sum,
