@@ -24,7 +24,7 @@ use Rattle.machine.specs.Readings.{reading_if, readings}
 use Rattle.machine.specs.Replays.{owns, replay}
 use Rattle.machine.specs.States.{leaving, quantum_turns, settling, settling_from, words_in}
 use Rattle.machine.specs.Turns.{is_runnable, turn}
-use Rattle.machine.proofs.Lists.{Stands}
+use Rattle.machine.proofs.Lists.{AreWordsAt}
 use Rattle.machine.proofs.Replaying.{owns-append}
 use Rattle.block_count.specs.Counters.{Counter, mini_at, mini_of, one_more, placed_of, plan_at}
 use Rattle.block_count.specs.Course.{Pace, all_quanta, and_then, arming, placing, quanta_from, sampling, turns_of}
@@ -37,11 +37,11 @@ use Rattle.block_count.proofs.Taken.{got}
 
 -- ---- bodies
 
-words_stand : (code : Code) (at : ℕ) (body rest : List MarkedWord) → Stands code at (body ++ rest) → words_at (length body) code at ≡ body
+words_stand : (code : Code) (at : ℕ) (body rest : List MarkedWord) → AreWordsAt code at (body ++ rest) → words_at (length body) code at ≡ body
 words_stand code at [] rest h = refl
 words_stand code at (w ∷ ws) rest h = let a = ap (λ o. unwrap_or o (tool 0)) h.0 in let b = words_stand code (at + 4) ws rest h.1 in cc
 
-pub body_is : (k : Counter) (c : Core) → Stands c.code (mini_at k) (mini_of k).words → body_in c.code (mini_row k) ≡ body_of (k.slot ∷ []) one_more
+pub body_is : (k : Counter) (c : Core) → AreWordsAt c.code (mini_at k) (mini_of k).words → body_in c.code (mini_row k) ≡ body_of (k.slot ∷ []) one_more
 body_is k c s =
     let body = body_of (k.slot ∷ []) one_more in
     let four = body_len k.slot in

@@ -12,7 +12,7 @@ use Rattle.tramp_spec.specs.Jumps.{jump_word}
 use Rattle.tramp_spec.specs.Marks.{enter, tool}
 use Rattle.machine.specs.Cores.{In, Row, Core}
 use Rattle.machine.specs.Replays.{Legal, replay}
-use Rattle.machine.proofs.Lists.{Stands, get_other, get_same, in_snoc, put_words_other, put_words_stand, snoc_new, snoc_old, stands_other, stands_put}
+use Rattle.machine.proofs.Lists.{AreWordsAt, get_other, get_same, in_snoc, put_words_other, put_words_stand, snoc_new, snoc_old, stands_other, stands_put}
 use Rattle.machine.proofs.Replaying.{legal-append, replay-append}
 use Rattle.machine.proofs.Texts.{text_low}
 use Rattle.block_count.specs.Counters.{Counter, base_of, end_of, mini_at, mini_of}
@@ -26,7 +26,7 @@ use Rattle.block_count.proofs.Legal.{legal, text_stays}
 -- a counter stands in a machine: its mini block is live and has its words, and the point leads to its base
 pub record Has (k : Counter) (c : Core) : Type 0 where
   pub mini : In (mini_row k) c.rows
-  pub words : Stands c.code (mini_at k) (mini_of k).words
+  pub words : AreWordsAt c.code (mini_at k) (mini_of k).words
   pub entered : get c.code k.point ≡ Some (enter (jump_word k.point k.at))
 
 -- a counter lies below others

@@ -14,7 +14,7 @@ use Rattle.machine.specs.Effects.{with_block}
 use Rattle.machine.specs.Events.{LinkPoint, Apart, MayWrite, MayLinkMini, MayLinkPoint, May, next_of}
 use Rattle.machine.specs.Replays.{Legal}
 use Rattle.machine.proofs.Lists.{get_append, get_other, in_snoc, put_words_other, put_words_stand, snoc_new, stands_at}
-use Rattle.machine.proofs.Minis.{link_is}
+use Rattle.machine.proofs.Effects.{link_is}
 use Rattle.machine.proofs.Texts.{text_low}
 use Rattle.block_count.specs.Counters.{Counter, base_of, mini_at, mini_of, one_more}
 use Rattle.block_count.specs.Course.{placing}

@@ -16,7 +16,7 @@ use Rattle.machine.specs.Effects.{with_status, at_set, retired_at, is_kept, mini
 use Rattle.machine.specs.Events.{Apart, current_base, row_at, link_at, next_of}
 use Rattle.machine.specs.Instruments.{words_at, body_in, body_of_block}
 use Rattle.machine.specs.Reached.{IsReached}
-use Rattle.machine.proofs.Lists.{in_map, in_filter, in_snoc, get_other, put_words_other, put_words_stand, Stands}
+use Rattle.machine.proofs.Lists.{in_map, in_filter, in_snoc, get_other, put_words_other, put_words_stand, AreWordsAt}
 use Rattle.instrument.specs.Handing.{head_of, leading, event_of}
 use Rattle.instrument.specs.declared.entry.Entry.{Entry}
 use Rattle.instrument.specs.declared.entry.Entry.TheVariants.{WriteBase, WriteMini, LinkMini, LinkPoint, UnlinkMini, UnlinkPoint, Free}
@@ -33,7 +33,7 @@ words_same zero code new at f = refl
 words_same (suc n) code new at f =
     cc (ap (λ o. unwrap_or o (tool 0)) (f at (omega arith) (omega arith)), words_same n code new (at + 4) (λ a lo hi. f a (omega arith) (omega arith)))
 
-words_stand : (ws : List MarkedWord) (n : ℕ) (code : Code) (at : ℕ) → Stands code at ws → n ≤ length ws → words_at n code at ≡ take n ws
+words_stand : (ws : List MarkedWord) (n : ℕ) (code : Code) (at : ℕ) → AreWordsAt code at ws → n ≤ length ws → words_at n code at ≡ take n ws
 words_stand ws zero code at h l = refl
 words_stand [] (suc n) code at h l = absurd (omega arith)
 words_stand (w ∷ ws) (suc n) code at h l = cc (ap (λ o. unwrap_or o (tool 0)) h.0, words_stand ws n code (at + 4) h.1 (omega arith))

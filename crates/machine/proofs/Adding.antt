@@ -17,7 +17,7 @@ use Rattle.tramp_spec.proofs.Encodings.{jump_reads}
 use Rattle.machine.specs.Cores.{In, Row, Live, Core, is_live, is_current}
 use Rattle.machine.specs.Events.{Apart, MayWrite, HasShape}
 use Rattle.machine.specs.Effects.{row_of, with_block}
-use Rattle.machine.proofs.Lists.{in_snoc, snoc_old, map_snoc, put_words_other, put_words_stand, stands_put, Stands}
+use Rattle.machine.proofs.Lists.{in_snoc, snoc_old, map_snoc, put_words_other, put_words_stand, stands_put, AreWordsAt}
 use Rattle.machine.proofs.Invariant.{Piece, the_row, IsBase, Linked, LiveOf, BaseShape, MiniShape, ShapedAs, Shaped, Placed, Leads, HasFamily, Door, Static, InBase, InMini, Dynamic, Inv}
 use Rattle.machine.proofs.Homes.{has_len, row_in}
 use Rattle.machine.proofs.Texts.{text_low}
@@ -204,7 +204,7 @@ write_base c s v b may e h =
       len = ap length k.is ∙ (let z : suc (suc (suc (length k.moved))) ≡ 3 + length k.moved = omega arith in z);
       jump = jump_word (b.at + 4) (tail_of b.at);
       hops = hop;
-      stands = subst (λ l. Stands (put_words b.at b.words c.code) b.at l) k.is (put_words_stand b.at b.words c.code);
+      stands = subst (λ l. AreWordsAt (put_words b.at b.words c.code) b.at l) k.is (put_words_stand b.at b.words c.code);
     }) in
     record {
       new = new;
@@ -227,7 +227,7 @@ write_mini c s v b may e h =
       harmless = k.harmless;
       jump = jump_word at h.0;
       hops = record { offset = hop.1; is = hop.2; leads = hop.3 };
-      stands = subst (λ l. Stands (put_words b.at b.words c.code) b.at l) k.is (put_words_stand b.at b.words c.code);
+      stands = subst (λ l. AreWordsAt (put_words b.at b.words c.code) b.at l) k.is (put_words_stand b.at b.words c.code);
     }) in
     record {
       new = new;

@@ -12,19 +12,19 @@ use Rattle.tramp_spec.proofs.Hops.{Hops}
 use Rattle.machine.specs.Cores.{In, Row, Status, Written, Live, is_live, is_current}
 use Rattle.machine.specs.Effects.{with_status}
 use Rattle.machine.specs.Events.{Apart, link_at}
-use Rattle.machine.proofs.Lists.{in_map, map_in, map_follows, get_same, get_other, Stands, stands_other}
+use Rattle.machine.proofs.Lists.{in_map, map_in, map_follows, get_same, get_other, AreWordsAt, stands_other}
 use Rattle.machine.proofs.Invariant.{Piece, the_row, IsBase, Linked, base_with, ShapedAs, Shaped, Placed, Leads, HasFamily, Door, TextWord, Static, BasePlace, InBase, InMini, Outside, Dynamic}
 
 -- ---- one word
 
 -- the last word of a mini block is written anew
-mini_next : (code : Code) (at : ℕ) (body : List MarkedWord) (old new : MarkedWord) → Stands code at (body ++ old ∷ []) → Stands (insert code (at + 4 * length body) new) at (body ++ new ∷ [])
+mini_next : (code : Code) (at : ℕ) (body : List MarkedWord) (old new : MarkedWord) → AreWordsAt code at (body ++ old ∷ []) → AreWordsAt (insert code (at + 4 * length body) new) at (body ++ new ∷ [])
 mini_next code at [] old new h =
     let e : at + 4 * 0 ≡ at = omega arith in
-    subst (λ a. Stands (insert code a new) at (new ∷ [])) (sym e) (get_same code at new, tt)
+    subst (λ a. AreWordsAt (insert code a new) at (new ∷ [])) (sym e) (get_same code at new, tt)
 mini_next code at (w ∷ ws) old new h =
     let e : at + 4 * suc (length ws) ≡ at + 4 + 4 * length ws = omega arith in
-    subst (λ a. Stands (insert code a new) at (w ∷ (ws ++ new ∷ []))) (sym e)
+    subst (λ a. AreWordsAt (insert code a new) at (w ∷ (ws ++ new ∷ []))) (sym e)
     (get_other code (at + 4 + 4 * length ws) at new (λ x. omega arith) ∙ h.0, mini_next code (at + 4) ws old new h.1)
 
 pub mini_len : (body : List MarkedWord) (w : MarkedWord) → length (body ++ w ∷ []) ≡ length body + 1
@@ -32,7 +32,7 @@ mini_len [] w = refl
 mini_len (v ∷ vs) w = let e = mini_len vs w in omega (arith, e)
 
 -- a block whose words stand as before
-pub shaped_still : (t : Words) (code new : Code) (row : Row) (body : List MarkedWord) (next : ℕ) → ((ws : List MarkedWord) → length ws ≡ row.len → Stands code row.at ws → Stands new row.at ws)
+pub shaped_still : (t : Words) (code new : Code) (row : Row) (body : List MarkedWord) (next : ℕ) → ((ws : List MarkedWord) → length ws ≡ row.len → AreWordsAt code row.at ws → AreWordsAt new row.at ws)
     → ShapedAs t code row body next → ShapedAs t new row body next
 shaped_still t code new row body next still (inl r) =
     inl (record {
@@ -80,7 +80,7 @@ shaped_next t code row body old new jump h (inl r) =
       len = r.len;
       jump = jump;
       hops = subst (λ a. Hops a new jump) e h;
-      stands = subst (λ a. Stands (insert code a (tool jump)) row.at (base_with jump r.moved)) (sym e) (
+      stands = subst (λ a. AreWordsAt (insert code a (tool jump)) row.at (base_with jump r.moved)) (sym e) (
         get_other code (row.at + 4) row.at (tool jump) (λ x. omega arith) ∙ (r.stands).0,
         (
           get_same code (row.at + 4) (tool jump),
@@ -99,7 +99,7 @@ shaped_next t code row body old new jump h (inr r) =
       harmless = r.harmless;
       jump = jump;
       hops = subst (λ a. Hops a new jump) e h;
-      stands = subst (λ a. Stands (insert code a (tool jump)) row.at (body ++ tool jump ∷ [])) (sym e) (mini_next code row.at body (tool r.jump) (tool jump) r.stands);
+      stands = subst (λ a. AreWordsAt (insert code a (tool jump)) row.at (body ++ tool jump ∷ [])) (sym e) (mini_next code row.at body (tool r.jump) (tool jump) r.stands);
     })
 
 pub shaped_len : (t : Words) (code : Code) (row : Row) (body : List MarkedWord) (next : ℕ) → ShapedAs t code row body next → 0 < row.len

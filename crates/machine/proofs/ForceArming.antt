@@ -28,14 +28,14 @@ use Rattle.machine.proofs.Force.{Fits, Mine, Ready, Reads}
 use Rattle.machine.proofs.ForceEvents.{Known}
 use Rattle.machine.proofs.Homes.{piece_of, row_in, one_block, mini_shape, base_shape}
 use Rattle.machine.proofs.Invariant.{Piece, IsBase, Linked, BaseShape, MiniShape, Static, Door, Inv}
-use Rattle.machine.proofs.Lists.{find_gives, find_finds, Stands}
+use Rattle.machine.proofs.Lists.{find_gives, find_finds, AreWordsAt}
 use Rattle.machine.proofs.Opened.{arming_sets, AreWithin}
 use Rattle.machine.proofs.Openings.{opens_far_below, same_opening}
 use Rattle.machine.proofs.Told.{Stand, starts}
 
 -- ---- bodies, in the code
 
-words_stand : (code : Code) (at : ℕ) (body rest : List MarkedWord) → Stands code at (body ++ rest) → words_at (length body) code at ≡ body
+words_stand : (code : Code) (at : ℕ) (body rest : List MarkedWord) → AreWordsAt code at (body ++ rest) → words_at (length body) code at ≡ body
 words_stand code at [] rest h = refl
 words_stand code at (w ∷ ws) rest h = let a = ap (λ o. unwrap_or o (tool 0)) h.0 in let b = words_stand code (at + 4) ws rest h.1 in cc
 

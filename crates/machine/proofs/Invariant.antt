@@ -24,7 +24,7 @@ use Rattle.tramp_spec.specs.declared.mark.MarkedWord.{MarkedWord}
 use Rattle.tramp_spec.proofs.Hops.{Hops}
 use Rattle.machine.specs.Cores.{In, Row, Written, Live, Core, is_live, is_current}
 use Rattle.machine.specs.Events.{Apart}
-use Rattle.machine.proofs.Lists.{Stands}
+use Rattle.machine.proofs.Lists.{AreWordsAt}
 
 -- ---- the program
 
@@ -76,7 +76,7 @@ pub record BaseShape (t : Words) (code : Code) (row : Row) (next : ℕ) : Type 0
   pub len : row.len ≡ 3 + length moved
   pub jump : ℕ
   pub hops : Hops (row.at + 4) next jump
-  pub stands : Stands code row.at (base_with jump moved)
+  pub stands : AreWordsAt code row.at (base_with jump moved)
 
 pub record MiniShape (code : Code) (row : Row) (body : List MarkedWord) (next : ℕ) : Type 0 where
   pub mini : row.base ≡ false
@@ -84,7 +84,7 @@ pub record MiniShape (code : Code) (row : Row) (body : List MarkedWord) (next : 
   pub harmless : Harmless body
   pub jump : ℕ
   pub hops : Hops (row.at + 4 * length body) next jump
-  pub stands : Stands code row.at (body ++ tool jump ∷ [])
+  pub stands : AreWordsAt code row.at (body ++ tool jump ∷ [])
 
 abbrev pub ShapedAs : Words → Code → Row → List MarkedWord → ℕ → Type 0
 ShapedAs t code row body next = BaseShape t code row next ⊎ MiniShape code row body next

@@ -6,7 +6,7 @@ use Rattle.pn_types.specs.declared.focus.CodePart.TheVariants.{All, Module, Proc
 use Rattle.pn_types.specs.contracts.focus.CodePartPartialEq.TheImpl as code
 use Rattle.resource_tree.specs.SameNodes.{is_same_code, is_same_number}
 use Rattle.mdl_check.specs.Sights.{is_same_sight}
-use Rattle.mdl_check.specs.contracts.sight.SightPartialEq.TheImpl as it
+use Rattle.mdl_check.specs.contracts.sight.MetricFocusPartialEq.TheImpl as it
 use Rattle.mdl_check.specs.declared.sight.MetricFocus.{MetricFocus}
 
 code_is : (a b : CodePart) → code.eq-value.it a b ≡ is_same_code a b

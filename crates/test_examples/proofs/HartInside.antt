@@ -25,7 +25,7 @@ use Rattle.machine.specs.Readings.{readings}
 use Rattle.machine.specs.Replays.{replay, Legal}
 use Rattle.machine.specs.States.{settling}
 use Rattle.std.proofs.lemmas.Bool.{true≢false}
-use Rattle.machine.proofs.Lists.{Stands}
+use Rattle.machine.proofs.Lists.{AreWordsAt}
 use Rattle.test_examples.proofs.ThreeLinked.{harmless, bank_five}
 use Rattle.test_examples.proofs.Traces.{Trace, placed, AllStand, one, Run, follows, leaving_so}
 
@@ -99,8 +99,8 @@ links_point = record {
 
 record Stand (code : Code) : Type 0 where
   entered : get code 0x10000 ≡ Some (enter 0x0000106f)
-  base : Stands code 0x11000 (tool 0x00503423 ∷ tool 0x0100006f ∷ tool 0x00803283 ∷ own 0x00150513 ∷ leave 0xff5fe06f ∷ [])
-  mini : Stands code 0x11014 (tool 0x00000fb7 ∷ tool 0x010fb283 ∷ tool 0x00128293 ∷ tool 0x005fb823 ∷ tool 0xfe5ff06f ∷ [])
+  base : AreWordsAt code 0x11000 (tool 0x00503423 ∷ tool 0x0100006f ∷ tool 0x00803283 ∷ own 0x00150513 ∷ leave 0xff5fe06f ∷ [])
+  mini : AreWordsAt code 0x11014 (tool 0x00000fb7 ∷ tool 0x010fb283 ∷ tool 0x00128293 ∷ tool 0x005fb823 ∷ tool 0xfe5ff06f ∷ [])
 
 abbrev first_code : Code
 first_code = first_linked.code

@@ -20,7 +20,7 @@ use Rattle.machine.specs.Events.{Apart, MayWrite, MayLinkMini, current_base, nex
 use Rattle.machine.specs.Replays.{replay, Legal}
 use Rattle.test_examples.specs.LoopCounted.{loop, loop_core, count_up, rounds, linking}
 use Rattle.test_examples.specs.ThreeCounters.{adding, counter_on, mini_on}
-use Rattle.machine.proofs.Lists.{Stands}
+use Rattle.machine.proofs.Lists.{AreWordsAt}
 use Rattle.test_examples.proofs.LoopLinked.{measurable, linked, linked_code}
 use Rattle.test_examples.proofs.Traces.{one}
 
@@ -35,10 +35,10 @@ entering = enter 0x0000106f
 -- the point's word, and those that lead from block to block, differ from time to time
 pub record Three (code : Code) (at_point : MarkedWord) (head first third : ℕ) : Type 0 where
   pub point : get code 0x10000 ≡ Some at_point
-  pub base : Stands code 0x11000 (tool 0x00503423 ∷ tool head ∷ tool 0x00803283 ∷ own 0xff5fe06f ∷ [])
-  pub on_2 : Stands code 0x11010 (mini_of 0x010fb283 0x005fb823 first)
-  pub on_3 : Stands code 0x11024 (mini_of 0x018fb283 0x005fbc23 0xfddff06f)
-  pub on_4 : Stands code 0x11038 (mini_of 0x020fb283 0x025fb023 third)
+  pub base : AreWordsAt code 0x11000 (tool 0x00503423 ∷ tool head ∷ tool 0x00803283 ∷ own 0xff5fe06f ∷ [])
+  pub on_2 : AreWordsAt code 0x11010 (mini_of 0x010fb283 0x005fb823 first)
+  pub on_3 : AreWordsAt code 0x11024 (mini_of 0x018fb283 0x005fbc23 0xfddff06f)
+  pub on_4 : AreWordsAt code 0x11038 (mini_of 0x020fb283 0x025fb023 third)
 
 abbrev pub three_code : Code
 three_code = (replay (linking ++ adding) (loop_core 1000)).code

@@ -16,7 +16,7 @@ use Rattle.machine.specs.Replays.{replay, Legal, owns}
 use Rattle.machine.specs.States.{leaving}
 use Rattle.machine.specs.Turns.{turn, turn_by, ticks_by, put_back, may_turn}
 use Rattle.std.proofs.lemmas.Bool.{eqb-true}
-use Rattle.machine.proofs.Lists.{Stands}
+use Rattle.machine.proofs.Lists.{AreWordsAt}
 use Rattle.machine.proofs.Replaying.{replay-append, owns-append, legal-append}
 
 -- words with their addresses
@@ -31,7 +31,7 @@ abbrev pub AllStand : Code → Trace → Type 0
 AllStand code [] = Unit {0}
 AllStand code (w ∷ ws) = (get code w.0 ≡ Some w.1) × AllStand code ws
 
-pub stand_placed : (code : Code) (at : ℕ) (ws : List MarkedWord) (t : Trace) → Stands code at ws → AllStand code t → AllStand code (placed at ws t)
+pub stand_placed : (code : Code) (at : ℕ) (ws : List MarkedWord) (t : Trace) → AreWordsAt code at ws → AllStand code t → AllStand code (placed at ws t)
 stand_placed code at [] t s r = r
 stand_placed code at (w ∷ ws) t s r = (s.0, stand_placed code (at + 4) ws t s.1 r)
 

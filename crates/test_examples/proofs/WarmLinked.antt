@@ -21,7 +21,7 @@ use Rattle.machine.specs.Laws.{IsProgram}
 use Rattle.machine.specs.Replays.{replay, Legal}
 use Rattle.test_examples.specs.WarmTimer.{procedure, two_harts, stop_if_off, procedure_time, timer, timer_base, timer_mini, linking_timer}
 use Rattle.test_examples.proofs.ThreeLinked.{bank_five}
-use Rattle.machine.proofs.Lists.{Stands, put_words_stand, stands_other, stands_at}
+use Rattle.machine.proofs.Lists.{AreWordsAt, put_words_stand, stands_other, stands_at}
 
 pub program : IsProgram procedure
 unfolding decode_of
@@ -150,8 +150,8 @@ test_words = tool 0x00000fb7 ∷ tool 0x020fb283 ∷ tool 0x00000fb7 ∷ tool 0x
 
 pub record Stand (code : Code) : Type 0 where
   pub entered : get code 0x10004 ≡ Some (enter 0x7fd0006f)
-  pub base : Stands code 0x11000 (tool 0x00503423 ∷ tool 0x00c0006f ∷ tool 0x00803283 ∷ own 0xff9fe06f ∷ [])
-  pub test : Stands code 0x11010 test_words
+  pub base : AreWordsAt code 0x11000 (tool 0x00503423 ∷ tool 0x00c0006f ∷ tool 0x00803283 ∷ own 0xff9fe06f ∷ [])
+  pub test : AreWordsAt code 0x11010 test_words
   pub last : get code 0x11054 ≡ Some (tool 0xfb5ff06f)
 
 abbrev chained : Code
@@ -160,7 +160,7 @@ chained = insert written.code 0x11004 (tool 0x00c0006f)
 abbrev pub linked_code : Code
 linked_code = insert chained 0x10004 (enter 0x7fd0006f)
 
-pub mini_stands : Stands linked_code 0x11010 timer_mini.words
+pub mini_stands : AreWordsAt linked_code 0x11010 timer_mini.words
 unfolding body_of
 mini_stands =
     stands_other chained 0x10004 (enter 0x7fd0006f) 0x11010 timer_mini.words (inl (omega arith))
@@ -177,7 +177,7 @@ stand =
       last = stands_at linked_code 0x11010 timer_mini.words 17 (tool 0xfb5ff06f) m refl;
     }
 
-words_stand : (code : Code) (at : ℕ) (body : List MarkedWord) (last : MarkedWord) → Stands code at (body ++ last ∷ []) → words_at (length body) code at ≡ body
+words_stand : (code : Code) (at : ℕ) (body : List MarkedWord) (last : MarkedWord) → AreWordsAt code at (body ++ last ∷ []) → words_at (length body) code at ≡ body
 words_stand code at [] last s = refl
 words_stand code at (w ∷ ws) last s =
     ap (λ o. unwrap_or o (tool 0) ∷ words_at (length ws) code (at + 4)) s.0 ∙ ap (λ l. w ∷ l) (words_stand code (at + 4) ws last s.1)
