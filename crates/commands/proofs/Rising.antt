@@ -59,7 +59,7 @@ use Rattle.commands.specs.Inputs.{begins_elf, or_bad_elf, or_bad_text, image_of,
 use Rattle.commands.specs.Logs.{or_bad_log, IsLog, IsLogContent, MeansLog}
 use Rattle.commands.specs.Replays.{replayed, IsReplay, IsReplayDue, IsReplayOf, IsReplayWith}
 use Rattle.commands.specs.Plans.{metric_named, or_unknown, or_bad_focus, IsSelected, IsPlanText, IsPlanAt, IsPlan}
-use Rattle.commands.specs.Sights.{FileReading, file_read, limited, IsContent}
+use Rattle.commands.specs.Sights.{FileReading, reads, limited, IsContent}
 use Rattle.commands.specs.declared.advising.TheConstants.{REPORT_LIMIT}
 use Rattle.commands.specs.declared.configuration.TheConstants.{CONFIGURATION_LIMIT}
 use Rattle.commands.specs.declared.directing.TheConstants.{DIRECTIVES_LIMIT}
@@ -295,10 +295,10 @@ module _ (name : List ℕ) (P : Type 0) (sees : FileReading) (at_file : (other :
   at_words : (words : List (List ℕ)) → IsDue words sees (Err (FileFault name)) → P
   at_words words = at_request (request_of words)
 
-pub rises : (holds : List ℕ → Holding) (before now : List ℕ → ℕ) (name : List ℕ) (words : List (List ℕ)) → IsDue words (file_read holds before now) (Err (FileFault name)) → Rose (before name) (now name)
-rises holds before now name words = at_words name (Rose (before name) (now name)) (file_read holds before now) at words
+pub rises : (holds : List ℕ → Holding) (before now : List ℕ → ℕ) (name : List ℕ) (words : List (List ℕ)) → IsDue words (reads holds before now) (Err (FileFault name)) → Rose (before name) (now name)
+rises holds before now name words = at_words name (Rose (before name) (now name)) (reads holds before now) at words
   where
-    at : (other : List ℕ) → file_read holds before now other (Err (FileFault name)) → Rose (before name) (now name)
+    at : (other : List ℕ) → reads holds before now other (Err (FileFault name)) → Rose (before name) (now name)
     at other h =
         let e = h.0 in
         let same : other ≡ name = cc in

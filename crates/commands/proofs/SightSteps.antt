@@ -18,7 +18,7 @@ use Rattle.commands.specs.Directing.{AreDirectives, IsDirection}
 use Rattle.commands.specs.Inputs.{IsProgramOfFile, IsConfiguration, AreInputs}
 use Rattle.commands.specs.Logs.{IsLog}
 use Rattle.commands.specs.Runs.{IsPrepared}
-use Rattle.commands.specs.Sights.{FileReading, file_read, IsContent}
+use Rattle.commands.specs.Sights.{FileReading, reads, IsContent}
 use Rattle.commands.specs.declared.inputs.Inputs.{Inputs}
 use Rattle.commands.specs.declared.logs.Log.{Log}
 use Rattle.commands.specs.declared.texts.Texts.{Texts}
@@ -49,24 +49,24 @@ module _ (sees : FileReading) (most : ℕ) (too_long : Fault) (name : List ℕ) 
 -- ---- what was seen before other files were read, and after
 
 -- a program that was read stays read
-pub program_again : (holds : List ℕ → Holding) (before then now : List ℕ → ℕ) (name : List ℕ) (image : Image) → IsProgramOfFile (file_read holds before then) name (Ok image) → IsProgramOfFile (file_read holds before now) name (Ok image)
+pub program_again : (holds : List ℕ → Holding) (before then now : List ℕ → ℕ) (name : List ℕ) (image : Image) → IsProgramOfFile (reads holds before then) name (Ok image) → IsProgramOfFile (reads holds before now) name (Ok image)
 program_again holds before then now name image (Ok bytes, (Ok whole, h, short), is) = (Ok bytes, (Ok whole, h, short), is)
 program_again holds before then now name image (Ok bytes, (Err fault, h, short), is) = absurd (cc)
 program_again holds before then now name image (Err fault, h, is) = absurd (cc)
 
 -- and so does a configuration
-configuration_again : (holds : List ℕ → Holding) (before then now : List ℕ → ℕ) (name : List ℕ) (conf : Conf) → IsConfiguration (file_read holds before then) name (Ok conf) → IsConfiguration (file_read holds before now) name (Ok conf)
+configuration_again : (holds : List ℕ → Holding) (before then now : List ℕ → ℕ) (name : List ℕ) (conf : Conf) → IsConfiguration (reads holds before then) name (Ok conf) → IsConfiguration (reads holds before now) name (Ok conf)
 configuration_again holds before then now name conf (Ok text, (Ok whole, h, short), means) = (Ok text, (Ok whole, h, short), means)
 configuration_again holds before then now name conf (Ok text, (Err fault, h, short), means) = absurd (cc)
 configuration_again holds before then now name conf (Err fault, h, is) = absurd (cc)
 
-pub inputs_again : (holds : List ℕ → Holding) (before then now : List ℕ → ℕ) (program conf : List ℕ) (i : Inputs) → AreInputs (file_read holds before then) program conf (Ok i) → AreInputs (file_read holds before now) program conf (Ok i)
+pub inputs_again : (holds : List ℕ → Holding) (before then now : List ℕ → ℕ) (program conf : List ℕ) (i : Inputs) → AreInputs (reads holds before then) program conf (Ok i) → AreInputs (reads holds before now) program conf (Ok i)
 inputs_again holds before then now program conf i (Ok image, p, (Ok c, q, is)) = (Ok image, program_again holds before then now program image p, (Ok c, configuration_again holds before then now conf c q, is))
 inputs_again holds before then now program conf i (Ok image, p, (Err fault, q, is)) = absurd (cc)
 inputs_again holds before then now program conf i (Err fault, p, is) = absurd (cc)
 
 -- a file whose holding and count are those of before
-pub seen_from : (holds later : List ℕ → Holding) (before then now : List ℕ → ℕ) (name : List ℕ) → later name ≡ holds name → then name ≡ before name → (r : Result (List ℕ) Fault) → file_read later then now name r → file_read holds before now name r
+pub seen_from : (holds later : List ℕ → Holding) (before then now : List ℕ → ℕ) (name : List ℕ) → later name ≡ holds name → then name ≡ before name → (r : Result (List ℕ) Fault) → reads later then now name r → reads holds before now name r
 seen_from holds later before then now name same count (Ok bytes) h = (subst (λ x. IsWhole x bytes) same h.0, h.1)
 seen_from holds later before then now name same count (Err fault) h = (h.0, subst (λ n. Rose n (now name)) count h.1)
 
@@ -91,7 +91,7 @@ comes_as step other more (Err (refusal.Fault fault)) h = more (Err fault) h
 comes_as step other more (Err refusal.NoMemory) h = tt
 
 -- what was seen of a file in memory that never fails
-pub seen_sure : (holds : List ℕ → Holding) (name text : List ℕ) → holds name ≡ Some (Some text) → (r : Result (List ℕ) Fault) → file_read holds (λ name. 0) (λ name. 0) name r → r ≡ Ok text
+pub seen_sure : (holds : List ℕ → Holding) (name text : List ℕ) → holds name ≡ Some (Some text) → (r : Result (List ℕ) Fault) → reads holds (λ name. 0) (λ name. 0) name r → r ≡ Ok text
 seen_sure holds name text is (Ok bytes) h = ap (λ (b : List ℕ). Ok b) (subst (λ x. IsWhole x bytes) is h.0)
 seen_sure holds name text is (Err fault) h = absurd (omega (arith, h.1))
 

@@ -34,9 +34,9 @@ IsDueFor (Some (direct r)) sees texts = IsDirectDue r sees texts
 abbrev pub IsDue : List (List ℕ) → FileReading → Step Texts
 IsDue words sees = IsDueFor (request_of words) sees
 
--- ---- how many answers may be due
+-- ---- which results may be due
 
--- two answers are both texts, or the same
+-- both results are texts, or they are the same
 abbrev pub AreLike : Result Texts Fault → Result Texts Fault → Type 0
 AreLike (Ok texts) (Ok others) = Unit {0}
 AreLike (Ok texts) (Err fault) = ⊥

@@ -74,4 +74,5 @@ IsConfiguration sees name = Then (IsConfContent sees name) MeansConf
 -- first the program, then the configuration
 abbrev pub AreInputs : FileReading → List ℕ → List ℕ → Step Inputs
 AreInputs sees program conf =
-    Then (IsProgramOfFile sees program) (λ image. Then (IsConfiguration sees conf) (λ c inputs. inputs ≡ Ok (record { image = image; conf = c })))
+    Then (IsProgramOfFile sees program)
+    (λ image. Then (IsConfiguration sees conf) (λ c inputs. inputs ≡ Ok (record { image = image; conf = c })))

@@ -13,9 +13,9 @@ abbrev pub FileReading : Type 1
 FileReading = List ℕ → Step (List ℕ)
 
 -- A file was read to its end, and what it has are bytes; or a reading failed, and the name's count of faults rose.
-abbrev pub file_read : (List ℕ → Holding) → (List ℕ → ℕ) → (List ℕ → ℕ) → FileReading
-file_read holds before now name (Ok bytes) = IsWhole (holds name) bytes × IsBytes bytes
-file_read holds before now name (Err fault) = (fault ≡ FileFault name) × Rose (before name) (now name)
+abbrev pub reads : (List ℕ → Holding) → (List ℕ → ℕ) → (List ℕ → ℕ) → FileReading
+reads holds before now name (Ok bytes) = IsWhole (holds name) bytes × IsBytes bytes
+reads holds before now name (Err fault) = (fault ≡ FileFault name) × Rose (before name) (now name)
 
 -- the bytes, or this fault where there are more than a number
 abbrev pub limited : ℕ → Fault → List ℕ → Result (List ℕ) Fault

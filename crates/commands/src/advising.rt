@@ -3,7 +3,7 @@
 ghost use Rattle.std.specs.Prelude.{◌≡◌};
 ghost use Rattle.advice.specs.Reading.{verdicts_of};
 ghost use Rattle.commands.specs.Advising.{advice_texts, IsAdviseDue};
-ghost use Rattle.commands.specs.Sights.{file_read, Looks};
+ghost use Rattle.commands.specs.Sights.{reads, Looks};
 ghost use Rattle.refusals.specs.Refusals.{Comes};
 
 use crate::files::read_file;
@@ -38,7 +38,7 @@ fn advised(alloc: Global, report: &[u8]) -> Result<Texts, Refusal>
 ///
 /// `Refusal::NoMemory` where memory runs out, or the first fault that is due.
 pub fn advise<F: Files>(alloc: Global, name: &str, files: &mut F) -> Result<Texts, Refusal>
-    ensures due { Comes result (IsAdviseDue name.now (file_read (F.holds files.old) (F.faults files.old) (F.faults files.new))) }
+    ensures due { Comes result (IsAdviseDue name.now (reads (F.holds files.old) (F.faults files.old) (F.faults files.new))) }
     ensures looks { Looks F.holds F.faults files.old files.new result }
 {
     let too_long = Fault::BadReport(REPORT_LIMIT);

@@ -4,7 +4,7 @@ ghost use Rattle.command_words.specs.Asked.{asked_blocks};
 ghost use Rattle.command_words.specs.Requests.{HasRanges, blocks};
 ghost use Rattle.commands.specs.Blocks.{IsBlocksDue, AreCounted};
 ghost use Rattle.commands.specs.Given.{IsUnscratched};
-ghost use Rattle.commands.specs.Sights.{file_read, Looks};
+ghost use Rattle.commands.specs.Sights.{reads, Looks};
 ghost use Rattle.pn_types.specs.Images.{IsImage};
 ghost use Rattle.refusals.specs.Refusals.{Comes};
 
@@ -59,7 +59,7 @@ pub fn blocks<F: Files>(
 ) -> Result<Texts, Refusal>
     requires ranges { HasRanges (blocks (asked_blocks request.now)) }
     ensures due { Comes result
-        (IsBlocksDue (asked_blocks request.now) (file_read (F.holds files.old) (F.faults files.old) (F.faults files.new))) }
+        (IsBlocksDue (asked_blocks request.now) (reads (F.holds files.old) (F.faults files.old) (F.faults files.new))) }
     ensures looks { Looks F.holds F.faults files.old files.new result }
 {
     let image = read_program(alloc, files, request.program)?;

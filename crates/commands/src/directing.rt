@@ -11,7 +11,7 @@ ghost use Rattle.mdl_shipped.specs.Shipped.{shipped_conf};
 ghost use Rattle.commands.specs.Directing.{MeansDirectives, AreDirectives, IsDirectDue, IsConfAfter, IsDirection, IsDirectRun};
 ghost use Rattle.commands.specs.Given.{inputs_with, CanRun, IsUnscratched};
 ghost use Rattle.commands.specs.Runs.{IsInOrder, IsSession, report_alone};
-ghost use Rattle.commands.specs.Sights.{file_read, Looks};
+ghost use Rattle.commands.specs.Sights.{reads, Looks};
 ghost use Rattle.pn_types.specs.Images.{IsImage};
 ghost use Rattle.refusals.specs.Kinds.{fault_at};
 ghost use Rattle.refusals.specs.Refusals.{Comes};
@@ -65,7 +65,7 @@ fn read_directions<F: Files>(
     files: &mut F,
     name: &str,
 ) -> Result<Seq<Directive>, Refusal>
-    ensures directives { Comes result (AreDirectives (file_read (F.holds files.old) (F.faults files.old) (F.faults files.new)) name.now) }
+    ensures directives { Comes result (AreDirectives (reads (F.holds files.old) (F.faults files.old) (F.faults files.new)) name.now) }
     ensures looks { Looks F.holds F.faults files.old files.new result }
 {
     let too_long = Fault::BadDirectives(ConfFault {
@@ -169,7 +169,7 @@ fn follow_directions<F: Files>(
     requires small { AllByRecursion HasSmall inputs.conf.items }
     requires accepted { IsAccepted tree.now shipped_conf.items inputs.conf.items }
     ensures due { Comes result
-        (IsDirection (asked_direct request.now) (file_read (F.holds files.old) (F.faults files.old) (F.faults files.new)) inputs) }
+        (IsDirection (asked_direct request.now) (reads (F.holds files.old) (F.faults files.old) (F.faults files.new)) inputs) }
     ensures looks { Looks F.holds F.faults files.old files.new result }
 {
     let directives = read_directions(alloc, files, request.directives)?;
@@ -189,7 +189,7 @@ pub fn direct<F: Files>(
 ) -> Result<Texts, Refusal>
     requires ranges { HasRanges (direct (asked_direct request.now)) }
     ensures due { Comes result
-        (IsDirectDue (asked_direct request.now) (file_read (F.holds files.old) (F.faults files.old) (F.faults files.new))) }
+        (IsDirectDue (asked_direct request.now) (reads (F.holds files.old) (F.faults files.old) (F.faults files.new))) }
     ensures looks { Looks F.holds F.faults files.old files.new result }
 {
     let session = request.session;

@@ -1,7 +1,7 @@
 //! Reads files to their ends.
 
 ghost use Rattle.std.specs.Prelude.{◌≡◌, ◌≤◌, IfOk, length};
-ghost use Rattle.commands.specs.Sights.{file_read, IsContent, Looks};
+ghost use Rattle.commands.specs.Sights.{reads, IsContent, Looks};
 ghost use Rattle.outside.specs.Outside.{IsBytes};
 ghost use Rattle.refusals.specs.Refusals.{Comes};
 
@@ -41,7 +41,8 @@ pub fn read_file<F: Files>(
     most: u64,
     too_long: Fault,
 ) -> Result<Seq<u8>, Refusal>
-    ensures content { Comes result (IsContent (file_read (F.holds files.old) (F.faults files.old) (F.faults files.new)) most too_long name.now) }
+    ensures content { Comes result
+        (IsContent (reads (F.holds files.old) (F.faults files.old) (F.faults files.new)) most too_long name.now) }
     ensures short { IfOk result (λ bytes. length bytes ≤ most) }
     ensures looks { Looks F.holds F.faults files.old files.new result }
 {

@@ -6,7 +6,7 @@ ghost use Rattle.code_points.specs.Procedures.{AreModulesGood};
 ghost use Rattle.mdl_ast.specs.Small.{HasSmall};
 ghost use Rattle.commands.specs.Given.{IsUnscratched};
 ghost use Rattle.commands.specs.Inputs.{IsProgramContent, IsProgramOfFile, IsElfFile, IsConfiguration, AreInputs};
-ghost use Rattle.commands.specs.Sights.{file_read, Looks};
+ghost use Rattle.commands.specs.Sights.{reads, Looks};
 ghost use Rattle.pn_types.specs.Images.{IsImage};
 ghost use Rattle.refusals.specs.Refusals.{Comes};
 
@@ -22,7 +22,7 @@ use std::alloc::Global;
 
 /// Reads a program file.
 fn read_program_file<F: Files>(alloc: Global, files: &mut F, name: &str) -> Result<Seq<u8>, Refusal>
-    ensures content { Comes result (IsProgramContent (file_read (F.holds files.old) (F.faults files.old) (F.faults files.new)) name.now) }
+    ensures content { Comes result (IsProgramContent (reads (F.holds files.old) (F.faults files.old) (F.faults files.new)) name.now) }
     ensures short { IfOk result (λ bytes. length bytes ≤ MAX_PROGRAM_LEN) }
     ensures looks { Looks F.holds F.faults files.old files.new result }
 {
@@ -36,7 +36,7 @@ fn read_program_file<F: Files>(alloc: Global, files: &mut F, name: &str) -> Resu
 ///
 /// `Refusal::NoMemory` where memory runs out, or the first fault that is due.
 pub fn read_program<F: Files>(alloc: Global, files: &mut F, name: &str) -> Result<Image, Refusal>
-    ensures program { Comes result (IsProgramOfFile (file_read (F.holds files.old) (F.faults files.old) (F.faults files.new)) name.now) }
+    ensures program { Comes result (IsProgramOfFile (reads (F.holds files.old) (F.faults files.old) (F.faults files.new)) name.now) }
     ensures image { IfOk result IsImage }
     ensures modules { IfOk result AreModulesGood }
     ensures unscratched { IfOk result IsUnscratched }
@@ -52,7 +52,7 @@ pub fn read_program<F: Files>(alloc: Global, files: &mut F, name: &str) -> Resul
 ///
 /// `Refusal::NoMemory` where memory runs out, or the first fault that is due.
 pub fn read_text<F: Files>(alloc: Global, files: &mut F, name: &str) -> Result<Seq<u8>, Refusal>
-    ensures file { Comes result (IsElfFile (file_read (F.holds files.old) (F.faults files.old) (F.faults files.new)) name.now) }
+    ensures file { Comes result (IsElfFile (reads (F.holds files.old) (F.faults files.old) (F.faults files.new)) name.now) }
     ensures looks { Looks F.holds F.faults files.old files.new result }
 {
     let bytes = read_program_file(alloc, files, name)?;
@@ -69,7 +69,7 @@ pub fn read_configuration<F: Files>(
     files: &mut F,
     name: &str,
 ) -> Result<Conf, Refusal>
-    ensures configuration { Comes result (IsConfiguration (file_read (F.holds files.old) (F.faults files.old) (F.faults files.new)) name.now) }
+    ensures configuration { Comes result (IsConfiguration (reads (F.holds files.old) (F.faults files.old) (F.faults files.new)) name.now) }
     ensures few { IfOk result (λ conf. length conf.items ≤ 1048576) }
     ensures small { IfOk result (λ conf. AllByRecursion HasSmall conf.items) }
     ensures looks { Looks F.holds F.faults files.old files.new result }
@@ -103,7 +103,7 @@ pub fn read_inputs<F: Files>(
     program: &str,
     conf: &str,
 ) -> Result<Inputs, Refusal>
-    ensures inputs { Comes result (AreInputs (file_read (F.holds files.old) (F.faults files.old) (F.faults files.new)) program.now conf.now) }
+    ensures inputs { Comes result (AreInputs (reads (F.holds files.old) (F.faults files.old) (F.faults files.new)) program.now conf.now) }
     ensures image { IfOk result (λ inputs. IsImage inputs.image) }
     ensures modules { IfOk result (λ inputs. AreModulesGood inputs.image) }
     ensures unscratched { IfOk result (λ inputs. IsUnscratched inputs.image) }

@@ -4,7 +4,7 @@ ghost use Rattle.std.specs.Prelude.{◌≡◌, IfOk};
 ghost use Rattle.code_points.specs.Points.{points_of};
 ghost use Rattle.code_points.specs.Procedures.{procedures_of, skipped_of};
 ghost use Rattle.commands.specs.Listing.{IsPointsDue, IsAsmDue};
-ghost use Rattle.commands.specs.Sights.{file_read, Looks};
+ghost use Rattle.commands.specs.Sights.{reads, Looks};
 ghost use Rattle.pn_types.specs.Images.{IsImage};
 ghost use Rattle.refusals.specs.Refusals.{Comes};
 ghost use Rattle.report.specs.Points.{points_text};
@@ -35,7 +35,7 @@ fn points_of_image(alloc: Global, image: &Image) -> Result<Vec<u8>, NoMemory>
 ///
 /// `Refusal::NoMemory` where memory runs out, or the first fault that is due.
 pub fn points<F: Files>(alloc: Global, program: &str, files: &mut F) -> Result<Texts, Refusal>
-    ensures due { Comes result (IsPointsDue program.now (file_read (F.holds files.old) (F.faults files.old) (F.faults files.new))) }
+    ensures due { Comes result (IsPointsDue program.now (reads (F.holds files.old) (F.faults files.old) (F.faults files.new))) }
     ensures looks { Looks F.holds F.faults files.old files.new result }
 {
     let image = read_program(alloc, files, program)?;
@@ -49,7 +49,7 @@ pub fn points<F: Files>(alloc: Global, program: &str, files: &mut F) -> Result<T
 ///
 /// `Refusal::NoMemory` where memory runs out, or the first fault that is due.
 pub fn asm<F: Files>(alloc: Global, text: &str, files: &mut F) -> Result<Texts, Refusal>
-    ensures due { Comes result (IsAsmDue text.now (file_read (F.holds files.old) (F.faults files.old) (F.faults files.new))) }
+    ensures due { Comes result (IsAsmDue text.now (reads (F.holds files.old) (F.faults files.old) (F.faults files.new))) }
     ensures looks { Looks F.holds F.faults files.old files.new result }
 {
     let file = read_text(alloc, files, text)?;

@@ -2,7 +2,7 @@
 
 ghost use Rattle.std.specs.Prelude.{◌≡◌, ◌≤◌, IfOk, length};
 ghost use Rattle.commands.specs.Logs.{misfit_fault, version_in, IsLog, MeansLog};
-ghost use Rattle.commands.specs.Sights.{file_read, Looks};
+ghost use Rattle.commands.specs.Sights.{reads, Looks};
 ghost use Rattle.pn_types.specs.declared.limits.TheConstants.{MAX_QUANTA};
 ghost use Rattle.quanta_log.specs.Fields.{entry_len, head_len, log_len};
 ghost use Rattle.quanta_log.specs.Meaning.{begins_as};
@@ -73,7 +73,7 @@ fn log_of(alloc: Global, bytes: &[u8]) -> Result<Log, Refusal>
 ///
 /// `Refusal::NoMemory` where memory runs out, or the first fault that is due.
 pub fn read_log<F: Files>(alloc: Global, files: &mut F, name: &str) -> Result<Log, Refusal>
-    ensures log { Comes result (IsLog (file_read (F.holds files.old) (F.faults files.old) (F.faults files.new)) name.now) }
+    ensures log { Comes result (IsLog (reads (F.holds files.old) (F.faults files.old) (F.faults files.new)) name.now) }
     ensures spelled { IfOk result (λ log. CanSpell version.Two log.settings log.quanta) }
     ensures looks { Looks F.holds F.faults files.old files.new result }
 {

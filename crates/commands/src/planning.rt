@@ -7,7 +7,7 @@ ghost use Rattle.command_words.specs.Requests.{HasRanges, plan};
 ghost use Rattle.mdl_ast.specs.declared.metric.Metric.{Metric};
 ghost use Rattle.mdl_check.specs.Sound.{IsSoundCheck};
 ghost use Rattle.commands.specs.Plans.{metric_named, IsSelected, IsPlanAt, IsPlan, IsPlanDue};
-ghost use Rattle.commands.specs.Sights.{file_read, Looks};
+ghost use Rattle.commands.specs.Sights.{reads, Looks};
 ghost use Rattle.pn_types.specs.Images.{IsImage};
 ghost use Rattle.refusals.specs.Refusals.{Comes};
 
@@ -114,7 +114,7 @@ pub fn plan<F: Files>(
     files: &mut F,
 ) -> Result<Texts, Refusal>
     requires { HasRanges (plan (asked_plan request.now)) }
-    ensures due { Comes result (IsPlanDue (asked_plan request.now) (file_read (F.holds files.old) (F.faults files.old) (F.faults files.new))) }
+    ensures due { Comes result (IsPlanDue (asked_plan request.now) (reads (F.holds files.old) (F.faults files.old) (F.faults files.new))) }
     ensures looks { Looks F.holds F.faults files.old files.new result }
 {
     let inputs = read_inputs(alloc, files, request.program, request.conf)?;

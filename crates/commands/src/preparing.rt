@@ -6,7 +6,7 @@ ghost use Rattle.command_words.specs.Asked.{asked_session};
 ghost use Rattle.commands.specs.Given.{inputs_with};
 ghost use Rattle.commands.specs.Preparing.{IsPreparedOf};
 ghost use Rattle.commands.specs.Runs.{IsPrepared};
-ghost use Rattle.commands.specs.Sights.{file_read, Looks};
+ghost use Rattle.commands.specs.Sights.{reads, Looks};
 ghost use Rattle.pn_types.specs.Settings.{AreInRange};
 ghost use Rattle.refusals.specs.Refusals.{Comes};
 ghost use Rattle.session.specs.Given.{AreGiven};
@@ -72,7 +72,7 @@ pub fn prepare<F: Files>(
 ) -> Result<Prepared, Refusal>
     requires range { AreInRange request.now.settings }
     ensures prepared { Comes result
-        (IsPreparedOf (IsPrepared (asked_session request.now) (file_read (F.holds files.old) (F.faults files.old) (F.faults files.new)))) }
+        (IsPreparedOf (IsPrepared (asked_session request.now) (reads (F.holds files.old) (F.faults files.old) (F.faults files.new)))) }
     ensures given { IfOk result (λ prepared. AreGiven prepared.inputs) }
     ensures skipped { IfOk result (λ prepared. prepared.skipped ≡ skipped_of prepared.inputs.image) }
     ensures settings { IfOk result (λ prepared. prepared.inputs.settings ≡ request.now.settings) }

@@ -7,7 +7,7 @@ ghost use Rattle.command_words.specs.Asked.{asked_replay};
 ghost use Rattle.mdl_ast.specs.Small.{HasSmall};
 ghost use Rattle.commands.specs.Given.{CanRun, IsUnscratched};
 ghost use Rattle.commands.specs.Replays.{IsRelogDue, IsReplay, IsReplayDue, IsReplayOf, IsReplayWith};
-ghost use Rattle.commands.specs.Sights.{file_read, Looks};
+ghost use Rattle.commands.specs.Sights.{reads, Looks};
 ghost use Rattle.pn_types.specs.Images.{IsImage};
 ghost use Rattle.quanta_log.specs.Spelling.{CanSpell};
 ghost use Rattle.quanta_log.specs.declared.version.Version.TheVariants as version;
@@ -79,7 +79,7 @@ pub fn replay<F: Files>(
     files: &mut F,
 ) -> Result<Texts, Refusal>
     ensures due { Comes result
-        (IsReplayDue (asked_replay request.now) (file_read (F.holds files.old) (F.faults files.old) (F.faults files.new))) }
+        (IsReplayDue (asked_replay request.now) (reads (F.holds files.old) (F.faults files.old) (F.faults files.new))) }
     ensures looks { Looks F.holds F.faults files.old files.new result }
 {
     let inputs = read_inputs(alloc, files, request.program, request.conf)?;
@@ -93,7 +93,7 @@ pub fn replay<F: Files>(
 ///
 /// `Refusal::NoMemory` where memory runs out, or the first fault that is due.
 pub fn relog<F: Files>(alloc: Global, name: &str, files: &mut F) -> Result<Texts, Refusal>
-    ensures due { Comes result (IsRelogDue name.now (file_read (F.holds files.old) (F.faults files.old) (F.faults files.new))) }
+    ensures due { Comes result (IsRelogDue name.now (reads (F.holds files.old) (F.faults files.old) (F.faults files.new))) }
     ensures looks { Looks F.holds F.faults files.old files.new result }
 {
     let log = read_log(alloc, files, name)?;

@@ -5,7 +5,7 @@ ghost use Rattle.code_points.specs.Procedures.{skipped_of};
 ghost use Rattle.command_words.specs.Asked.{asked_run};
 ghost use Rattle.command_words.specs.Requests.{HasRanges, IsOrderInRange, run};
 ghost use Rattle.commands.specs.Runs.{IsInOrder, IsRunDue, IsSession, report_and_log};
-ghost use Rattle.commands.specs.Sights.{file_read, Looks};
+ghost use Rattle.commands.specs.Sights.{reads, Looks};
 ghost use Rattle.refusals.specs.Refusals.{Comes};
 ghost use Rattle.session.specs.Given.{AreGiven};
 
@@ -58,7 +58,7 @@ pub fn run<F: Files>(
     files: &mut F,
 ) -> Result<Texts, Refusal>
     requires ranges { HasRanges (run (asked_run request.now)) }
-    ensures due { Comes result (IsRunDue (asked_run request.now) (file_read (F.holds files.old) (F.faults files.old) (F.faults files.new))) }
+    ensures due { Comes result (IsRunDue (asked_run request.now) (reads (F.holds files.old) (F.faults files.old) (F.faults files.new))) }
     ensures looks { Looks F.holds F.faults files.old files.new result }
 {
     let prepared = prepare(alloc, files, &request.session)?;

@@ -5,7 +5,7 @@ ghost use Rattle.code_points.specs.Procedures.{skipped_of};
 ghost use Rattle.command_words.specs.Asked.{asked_live};
 ghost use Rattle.command_words.specs.Requests.{HasRanges, IsQuantum, live};
 ghost use Rattle.commands.specs.Runs.{IsByWorkers, IsLiveDue, IsSession, report_and_log};
-ghost use Rattle.commands.specs.Sights.{file_read, Looks};
+ghost use Rattle.commands.specs.Sights.{reads, Looks};
 ghost use Rattle.refusals.specs.Refusals.{Comes};
 ghost use Rattle.session.specs.Given.{AreGiven};
 
@@ -60,7 +60,7 @@ pub fn live<F: Files, R: Threads + Wait + Sync, G: Gate + Sync>(
     gate: &G,
 ) -> Result<Texts, Refusal>
     requires ranges { HasRanges (live (asked_live request.now)) }
-    ensures due { Comes result (IsLiveDue (asked_live request.now) (file_read (F.holds files.old) (F.faults files.old) (F.faults files.new))) }
+    ensures due { Comes result (IsLiveDue (asked_live request.now) (reads (F.holds files.old) (F.faults files.old) (F.faults files.new))) }
     ensures looks { Looks F.holds F.faults files.old files.new result }
 {
     let prepared = prepare(alloc, files, &request.session)?;

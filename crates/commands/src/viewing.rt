@@ -4,7 +4,7 @@ ghost use Rattle.std.specs.Prelude.{◌≤◌};
 ghost use Rattle.command_words.specs.Asked.{asked_visi};
 ghost use Rattle.command_words.specs.Requests.{HasRanges, IsOrderInRange, visi};
 ghost use Rattle.commands.specs.Runs.{IsInOrder, IsSession, IsVisiDue, views_of};
-ghost use Rattle.commands.specs.Sights.{file_read, Looks};
+ghost use Rattle.commands.specs.Sights.{reads, Looks};
 ghost use Rattle.refusals.specs.Refusals.{Comes};
 ghost use Rattle.session.specs.Given.{AreGiven};
 
@@ -58,7 +58,7 @@ pub fn visi<F: Files, R: Threads + Wait + Sync, G: Gate + Sync>(
     gate: &G,
 ) -> Result<Texts, Refusal>
     requires ranges { HasRanges (visi (asked_visi request.now)) }
-    ensures due { Comes result (IsVisiDue (asked_visi request.now) (file_read (F.holds files.old) (F.faults files.old) (F.faults files.new))) }
+    ensures due { Comes result (IsVisiDue (asked_visi request.now) (reads (F.holds files.old) (F.faults files.old) (F.faults files.new))) }
     ensures looks { Looks F.holds F.faults files.old files.new result }
 {
     let prepared = prepare(alloc, files, &request.session)?;

@@ -10,7 +10,7 @@ use Rattle.refusals.specs.declared.fault.Fault.TheVariants.{Usage, FileFault, Ba
 use Rattle.headline.specs.Answers.{status_of, texts_of}
 use Rattle.headline.specs.Delivery.{IsTorn}
 use Rattle.commands.specs.Due.{AreOne, IsDue, is_live}
-use Rattle.commands.specs.Sights.{file_read, Looks}
+use Rattle.commands.specs.Sights.{reads, Looks}
 use Rattle.refusals.specs.Refusals.{Comes}
 use Rattle.refusals.specs.declared.refusal.Refusal.{Refusal}
 use Rattle.headline.specs.Serving.{AreGained, AreFilesKnown, AreTorn, IsOwed, IsServedCall, IsUnchangedCount, IsUntold, OneOwed, told_of}
@@ -99,7 +99,7 @@ module _ {F K L : Type 0} (holds : F → List ℕ → Holding) (faults : F → L
     served one = record { answered = a.answered; torn = a.torn; memory = a.memory; complete = complete one; unread = unread; unwritten = unwritten }
 
   -- by what an answer comes to, where it is given to the sinks
-  pub given : (r : Result Texts Refusal) → OneOwed holds faults → Comes r (IsDue words (file_read (holds old) (faults old) (faults new))) → Looks holds faults old new r
+  pub given : (r : Result Texts Refusal) → OneOwed holds faults → Comes r (IsDue words (reads (holds old) (faults old) (faults new))) → Looks holds faults old new r
       → ((result ≡ 7 → ⊥) → (result ≡ 8 → ⊥) → (answer : Result Texts Fault) × (told_of r ≡ Some answer) × (result ≡ status_of answer) × AreGained hasK faultsK oldK newK hasL faultsL oldL newL (texts_of answer))
       → (result ≡ 7 → (answer : Result Texts Fault) × (told_of r ≡ Some answer) × AreTorn hasK faultsK oldK newK hasL faultsL oldL newL (texts_of answer)) → (result ≡ 8 → (newK ≡ oldK) × (newL ≡ oldL))
       → IsServedCall holds faults old new words hasK faultsK oldK newK hasL faultsL oldL newL result

@@ -14,7 +14,7 @@ use Rattle.commands.proofs.OneDue.{Laws, due_once, of_same}
 use Rattle.commands.proofs.Rising.{NotFile, rises}
 use Rattle.commands.specs.Due.{AreOne, is_live}
 use Rattle.headline.specs.Serving.{AreFilesKnown, IsOwed}
-use Rattle.commands.specs.Sights.{file_read, Counted}
+use Rattle.commands.specs.Sights.{reads, Counted}
 use Rattle.commands.specs.declared.texts.Texts.{Texts}
 
 -- what may be told of a fault
@@ -55,7 +55,7 @@ module _ {F : Type 0} (holds : F → List ℕ → Holding) (faults : F → List 
   calm_of (BadDirectives fault) other c = c
   calm_of (BadReport place) other c = c
 
-  seen_once : IsCalm faults old new → (name : List ℕ) → IsOne (file_read (holds old) (faults old) (faults new) name)
+  seen_once : IsCalm faults old new → (name : List ℕ) → IsOne (reads (holds old) (faults old) (faults new) name)
   seen_once calm name (Ok x) (Ok y) a b = ap (λ (bytes : List ℕ). Ok bytes) (same_bytes (holds old name) x y (told name).0 a.0 b.0)
   seen_once calm name (Ok x) (Err g) a b = absurd (not_risen (faults old name) (faults new name) (told name).1 (calm name) b.1)
   seen_once calm name (Err f) (Ok y) a b = absurd (not_risen (faults old name) (faults new name) (told name).1 (calm name) a.1)
@@ -73,7 +73,7 @@ module _ {F : Type 0} (holds : F → List ℕ → Holding) (faults : F → List 
     of_equal false a b e = e
 
     calm_once : IsCalm faults old new → (a b : Result Texts Fault) → Owed a → Owed b → Same a b
-    calm_once calm a b owed other = due_once laws (file_read (holds old) (faults old) (faults new)) (seen_once calm) words a b owed.due other.due
+    calm_once calm a b owed other = due_once laws (reads (holds old) (faults old) (faults new)) (seen_once calm) words a b owed.due other.due
 
     risen : (name : List ℕ) → Owed (Err (FileFault name)) → Rose (faults old name) (faults new name)
     risen name owed = rises (holds old) (faults old) (faults new) name words owed.due

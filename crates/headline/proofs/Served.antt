@@ -8,7 +8,7 @@ use Rattle.refusals.specs.declared.refusal.Refusal.{Refusal}
 use Rattle.refusals.specs.declared.refusal.Refusal.TheVariants as refusal
 use Rattle.commands.specs.Due.{IsDue}
 use Rattle.headline.specs.Serving.{IsOwed, IsUntold, told_of}
-use Rattle.commands.specs.Sights.{file_read, Counted, Looks}
+use Rattle.commands.specs.Sights.{reads, Counted, Looks}
 use Rattle.commands.specs.declared.texts.Texts.{Texts}
 
 module _ {F : Type 0} (holds : F → List ℕ → Holding) (faults : F → List ℕ → ℕ) (old new : F) (words : List (List ℕ)) where
@@ -16,7 +16,7 @@ module _ {F : Type 0} (holds : F → List ℕ → Holding) (faults : F → List 
   Owed = IsOwed holds faults old new words
 
   abbrev IsComing : Result Texts Refusal → Type 0
-  IsComing r = Comes r (IsDue words (file_read (holds old) (faults old) (faults new)))
+  IsComing r = Comes r (IsDue words (reads (holds old) (faults old) (faults new)))
 
   pub owed : (r : Result Texts Refusal) (answer : Result Texts Fault) → IsComing r → Looks holds faults old new r → told_of r ≡ Some answer → Owed answer
   owed (Ok texts) answer due looks e =

@@ -1,7 +1,7 @@
 -- What follows for a call that serves words.
 use Rattle.std.proofs.Common.{◌≡◌, ◌≢◌, ℕ, List, Option, Result, Ok, Err, sym, ◌∙◌, arith}
 use Rattle.command_words.specs.Requests.{request_of}
-use Rattle.commands.specs.Sights.{file_read}
+use Rattle.commands.specs.Sights.{reads}
 use Rattle.commands.specs.declared.texts.Texts.{Texts}
 use Rattle.outside.specs.Outside.{Holding}
 use Rattle.headline.specs.Answers.{status_of, texts_of}
@@ -28,7 +28,7 @@ module _ {F K L : Type 0} (holds : F → List ℕ → Holding) (faults : F → L
     (honest : OwedIsHonest holds faults) where
   -- both sinks gained texts that tell what the headline says
   abbrev Telling : Type 0
-  Telling = (texts : Texts) × AreGained hasK faultsK oldK newK hasL faultsL oldL newL texts × Tells (request_of words) (file_read (holds old) (faults old) (faults new)) texts
+  Telling = (texts : Texts) × AreGained hasK faultsK oldK newK hasL faultsL oldL newL texts × Tells (request_of words) (reads (holds old) (faults old) (faults new)) texts
 
   gave : (answer : Result Texts Fault) → IsOwed holds faults old new words answer → status ≡ status_of answer
       → AreGained hasK faultsK oldK newK hasL faultsL oldL newL (texts_of answer) → status ≡ 0 → Telling

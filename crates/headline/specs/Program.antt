@@ -1,7 +1,7 @@
 -- What the program is called with, and what it does.
 use Rattle.std.specs.Prelude.{◌≡◌, ℕ, List, [], map, string_bytes, Option, Some, None, Ok}
 use Rattle.command_words.specs.Requests.{request_of}
-use Rattle.commands.specs.Sights.{file_read}
+use Rattle.commands.specs.Sights.{reads}
 use Rattle.commands.specs.declared.texts.Texts.{Texts}
 use Rattle.outside.specs.Outside.{Holding}
 use Rattle.headline.specs.Serving.{AreGained, IsOwed, IsServedCall}
@@ -19,7 +19,7 @@ words_read NoMemory = None
 abbrev pub OwedIsHonest : {F : Type 0} → (F → List ℕ → Holding) → (F → List ℕ → ℕ) → Type 0
 OwedIsHonest {F} holds faults =
     (old new : F) (words : List (List ℕ)) (texts : Texts) → IsOwed holds faults old new words (Ok texts) →
-    Tells (request_of words) (file_read (holds old) (faults old) (faults new)) texts
+    Tells (request_of words) (reads (holds old) (faults old) (faults new)) texts
 
 -- A call does what is owed for its words, and with status 0 both sinks gained texts that tell what the headline says.
 pub record IsTold {F K L : Type 0} (holds : F → List ℕ → Holding) (faults : F → List ℕ → ℕ) (old new : F) (words : List (List ℕ))
@@ -27,4 +27,4 @@ pub record IsTold {F K L : Type 0} (holds : F → List ℕ → Holding) (faults 
     (status : ℕ) : Type 0 where
   pub served : IsServedCall holds faults old new words hasK faultsK oldK newK hasL faultsL oldL newL status
   pub told : status ≡ 0 → (texts : Texts) × AreGained hasK faultsK oldK newK hasL faultsL oldL newL texts
-      × Tells (request_of words) (file_read (holds old) (faults old) (faults new)) texts
+      × Tells (request_of words) (reads (holds old) (faults old) (faults new)) texts

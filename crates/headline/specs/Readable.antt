@@ -45,5 +45,6 @@ pub record AreSmall (i : Inputs) (s : State) : Type 0 where
 -- What a session gives at its end can be read: each text in it is a name, a focus or in one line, and what was judged true has ticks.
 abbrev pub SessionIsReadable : Type 0
 SessionIsReadable = (i : Inputs) (quanta : List Quantum) (skipped : ℕ) → 1 ≤ i.settings.width → HasWindow i.checked.search → HasNames i
-    → AreSmall i (final_state i (after_quanta i quanta)) → All (IsNodeOfPhase i) (final_state i (after_quanta i quanta)).kept.search.nodes → IsSmall skipped
+    → AreSmall i (final_state i (after_quanta i quanta))
+    → All (IsNodeOfPhase i) (final_state i (after_quanta i quanta)).kept.search.nodes → IsSmall skipped
     → IsReadable (parts_of i (final_state i (after_quanta i quanta))) skipped

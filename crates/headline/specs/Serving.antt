@@ -9,7 +9,7 @@ use Rattle.refusals.specs.declared.refusal.Refusal.TheVariants as refusal
 use Rattle.headline.specs.Answers.{status_of, texts_of}
 use Rattle.headline.specs.Delivery.{IsTorn, Gained}
 use Rattle.commands.specs.Due.{AreOne, IsDue, is_live}
-use Rattle.commands.specs.Sights.{file_read, CountedFor}
+use Rattle.commands.specs.Sights.{reads, CountedFor}
 use Rattle.commands.specs.declared.texts.Texts.{Texts}
 use Rattle.headline.specs.declared.top.Reply.{Reply}
 
@@ -17,7 +17,7 @@ use Rattle.headline.specs.declared.top.Reply.{Reply}
 -- that of a file which the answer names as unread.
 pub record IsOwed {F : Type 0} (holds : F → List ℕ → Holding)
     (faults : F → List ℕ → ℕ) (old new : F) (words : List (List ℕ)) (answer : Result Texts Fault) : Type 0 where
-  pub due : IsDue words (file_read (holds old) (faults old) (faults new)) answer
+  pub due : IsDue words (reads (holds old) (faults old) (faults new)) answer
   pub same : (name : List ℕ) → holds new name ≡ holds old name
   pub counts : CountedFor holds faults old new answer
 

@@ -4,7 +4,7 @@ ghost use Rattle.std.specs.Prelude.{◌≡◌, false, Some, map, string_bytes};
 ghost use Rattle.command_words.specs.Asked.{asked};
 ghost use Rattle.command_words.specs.Requests.{begins_threaded, HasRanges, IsUnthreaded};
 ghost use Rattle.commands.specs.Due.{IsDue, IsDueFor};
-ghost use Rattle.commands.specs.Sights.{file_read, Looks};
+ghost use Rattle.commands.specs.Sights.{reads, Looks};
 ghost use Rattle.refusals.specs.Refusals.{Comes};
 
 use command_words::{Request, WordFault, read_request};
@@ -25,7 +25,7 @@ fn answer_request<F: Files>(
 ) -> Result<Texts, Refusal>
     requires ranges { HasRanges (asked request.now) }
     requires other { IsUnthreaded (asked request.now) }
-    ensures due { Comes result (IsDueFor (Some (asked request.now)) (file_read (F.holds files.old) (F.faults files.old) (F.faults files.new))) }
+    ensures due { Comes result (IsDueFor (Some (asked request.now)) (reads (F.holds files.old) (F.faults files.old) (F.faults files.new))) }
     ensures looks { Looks F.holds F.faults files.old files.new result }
 {
     match request {
@@ -50,7 +50,7 @@ pub(crate) fn answer<F: Files>(
     files: &mut F,
 ) -> Result<Texts, Refusal>
     requires { begins_threaded (map string_bytes words.now) ≡ false }
-    ensures due { Comes result (IsDue (map string_bytes words.now) (file_read (F.holds files.old) (F.faults files.old) (F.faults files.new))) }
+    ensures due { Comes result (IsDue (map string_bytes words.now) (reads (F.holds files.old) (F.faults files.old) (F.faults files.new))) }
     ensures looks { Looks F.holds F.faults files.old files.new result }
 {
     match read_request(alloc, words) {
@@ -68,7 +68,7 @@ pub(crate) fn answer_threaded<F: Files, R: Threads + Wait + Sync, G: Gate + Sync
     files: &mut F,
     gate: &G,
 ) -> Result<Texts, Refusal>
-    ensures due { Comes result (IsDue (map string_bytes words.now) (file_read (F.holds files.old) (F.faults files.old) (F.faults files.new))) }
+    ensures due { Comes result (IsDue (map string_bytes words.now) (reads (F.holds files.old) (F.faults files.old) (F.faults files.new))) }
     ensures looks { Looks F.holds F.faults files.old files.new result }
 {
     match read_request(alloc, words) {

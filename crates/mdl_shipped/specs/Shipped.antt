@@ -39,9 +39,10 @@ inserted prepend kind constrained s = record { line = 0; prepend = prepend; kind
 abbrev pub before : Set → EventKind → Bool → Statement → List Block
 before s kind constrained statement = record { line = 0; set = s; insertions = inserted true kind constrained statement ∷ [] } ∷ []
 
--- one insertion before the entries, and one behind the returns
+-- one insertion before the entries, and one after the returns
 abbrev pub around : Set → Bool → Statement → Statement → List Block
-around s constrained first last = record { line = 0; set = s; insertions = inserted true Entry constrained first ∷ inserted false Return false last ∷ [] } ∷ []
+around s constrained first last =
+    record { line = 0; set = s; insertions = inserted true Entry constrained first ∷ inserted false Return false last ∷ [] } ∷ []
 
 -- the procedures that wait for locks and barriers
 unfoldable pub locks : List (List ℕ)
@@ -67,11 +68,13 @@ unfoldable pub proc_calls : Constraint
 proc_calls = constraint (codes "proc_calls") (codes "/Code") true (before set.Focus Call true (plain (act.Up TheMetric)))
 
 unfoldable pub proc_time : Constraint
-proc_time = constraint (codes "proc_time") (codes "/Code") true (around set.Focus false (plain (act.Start TheMetric)) (plain (act.Stop TheMetric)))
+proc_time = constraint (codes "proc_time") (codes "/Code") true
+    (around set.Focus false (plain (act.Start TheMetric)) (plain (act.Stop TheMetric)))
 
 unfoldable pub on_object : Constraint
 on_object = constraint (codes "on_object") (codes "/SyncObject") false
-    (around (set.Names locks) false (when_arg 0 Eq Value (act.Put (Named (codes "on_object")) 1)) (plain (act.Put (Named (codes "on_object")) 0)))
+    (around (set.Names locks) false (when_arg 0 Eq Value (act.Put (Named (codes "on_object")) 1))
+    (plain (act.Put (Named (codes "on_object")) 0)))
 
 -- ---- metrics
 
@@ -89,7 +92,8 @@ procedure_calls = metric (codes "procedure_calls") (codes "calls") (codes "proc_
     (before set.All Entry false (plain (act.Up (Named (codes "procedure_calls")))))
 
 unfoldable pub calls_made : Metric
-calls_made = metric (codes "calls_made") (codes "calls") (codes "proc_calls" ∷ []) false None (before set.All Call false (plain (act.Up (Named (codes "calls_made")))))
+calls_made = metric (codes "calls_made") (codes "calls") (codes "proc_calls" ∷ []) false None
+    (before set.All Call false (plain (act.Up (Named (codes "calls_made")))))
 
 unfoldable pub cpu_inclusive : Metric
 cpu_inclusive = metric (codes "cpu_inclusive") (codes "ticks") (codes "proc_time" ∷ []) true (Some 1) []
@@ -111,7 +115,8 @@ small_io = metric (codes "small_io") (codes "operations") (codes "in_proc" ∷ [
 -- ---- hypotheses
 
 abbrev pub hypothesis : List ℕ → Option (List ℕ) → List ℕ → ℕ → List (List ℕ) → Hypothesis
-hypothesis name parent tested threshold axes = record { line = 0; name = name; parent = parent; metric = tested; threshold = threshold; axes = axes }
+hypothesis name parent tested threshold axes =
+    record { line = 0; name = name; parent = parent; metric = tested; threshold = threshold; axes = axes }
 
 abbrev pub two_axes : List (List ℕ)
 two_axes = codes "Code" ∷ codes "Machine" ∷ []
@@ -120,7 +125,8 @@ unfoldable pub cpu_bound : Hypothesis
 cpu_bound = hypothesis (codes "CPUbound") None (codes "cpu") 600 two_axes
 
 unfoldable pub excessive_sync : Hypothesis
-excessive_sync = hypothesis (codes "ExcessiveSyncWaitingTime") None (codes "sync_wait") 200 (codes "Code" ∷ codes "Machine" ∷ codes "SyncObject" ∷ [])
+excessive_sync = hypothesis (codes "ExcessiveSyncWaitingTime") None (codes "sync_wait") 200
+    (codes "Code" ∷ codes "Machine" ∷ codes "SyncObject" ∷ [])
 
 unfoldable pub excessive_io : Hypothesis
 excessive_io = hypothesis (codes "ExcessiveIOBlockingTime") None (codes "io_wait") 200 two_axes
@@ -135,7 +141,8 @@ lock_objects = record { line = 0; name = codes "lock_" }
 
 abbrev pub constraint_items : List Item
 constraint_items =
-    item.Constraint in_proc ∷ item.Constraint proc_entries ∷ item.Constraint proc_calls ∷ item.Constraint proc_time ∷ item.Constraint on_object ∷ []
+    item.Constraint in_proc ∷ item.Constraint proc_entries ∷ item.Constraint proc_calls ∷ item.Constraint proc_time
+    ∷ item.Constraint on_object ∷ []
 
 abbrev pub first_metrics : List Item
 first_metrics = item.Metric procedure_calls ∷ item.Metric calls_made ∷ item.Metric cpu_inclusive ∷ item.Metric cpu ∷ []
@@ -147,7 +154,8 @@ abbrev pub metric_items : List Item
 metric_items = first_metrics ++ waiting_metrics
 
 abbrev pub hypothesis_items : List Item
-hypothesis_items = item.Hypothesis cpu_bound ∷ item.Hypothesis excessive_sync ∷ item.Hypothesis excessive_io ∷ item.Hypothesis small_operations ∷ []
+hypothesis_items =
+    item.Hypothesis cpu_bound ∷ item.Hypothesis excessive_sync ∷ item.Hypothesis excessive_io ∷ item.Hypothesis small_operations ∷ []
 
 unfoldable pub shipped_conf : Conf
 shipped_conf = record { items = item.Sync lock_objects ∷ (constraint_items ++ (metric_items ++ hypothesis_items)) }

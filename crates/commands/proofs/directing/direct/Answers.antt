@@ -11,7 +11,7 @@ use Rattle.commands.proofs.SightSteps.{comes_as, direction_from, inputs_again, s
 use Rattle.commands.specs.Directing.{IsDirection}
 use Rattle.commands.specs.Found.{IsFound}
 use Rattle.commands.specs.Inputs.{AreInputs}
-use Rattle.commands.specs.Sights.{FileReading, file_read}
+use Rattle.commands.specs.Sights.{FileReading, reads}
 use Rattle.commands.specs.declared.inputs.Inputs.{Inputs}
 use Rattle.commands.specs.declared.texts.Texts.{Texts}
 use Rattle.commands.proofs.directing.direct.Goals as goal
@@ -19,7 +19,7 @@ use Rattle.commands.proofs.directing.direct.Goals as goal
 pub returns-in_err-found-clause-due : goal.returns-in_err-found-clause-due
 returns-in_err-found-clause-due g c =
     let r = asked_direct c.args.request.now in
-    let sees : FileReading = file_read (g.F.Files.holds c.args.files.now) (g.F.Files.faults c.args.files.now) (g.F.Files.faults c.read_inputs.new.files) in
+    let sees : FileReading = reads (g.F.Files.holds c.args.files.now) (g.F.Files.faults c.args.files.now) (g.F.Files.faults c.read_inputs.new.files) in
     let next : Inputs → Step Texts = λ i. Then (IsFound i.image r.session.settings.harts i.conf) (λ found. IsDirection r sees i) in
     let i = c.in_ok-inputs.inputs in
     comes_then (AreInputs sees r.session.program r.session.conf) next i c.from_residual-in_err-found.result c.in_ok-inputs.ensures.inputs
@@ -39,8 +39,8 @@ returns-clause-due g c =
     let old = c.args.files.now in
     let mid = c.read_inputs.new.files in
     let new = c.follow_directions.new.files in
-    let sees : FileReading = file_read (holds old) (faults old) (faults new) in
-    let later : FileReading = file_read (holds mid) (faults mid) (faults new) in
+    let sees : FileReading = reads (holds old) (faults old) (faults new) in
+    let later : FileReading = reads (holds mid) (faults mid) (faults new) in
     let i = c.in_ok-inputs.inputs in
     let next : Inputs → Step Texts = λ i. Then (IsFound i.image r.session.settings.harts i.conf) (λ found. IsDirection r sees i) in
     let inputs = inputs_again (holds old) (faults old) (faults mid) (faults new) r.session.program r.session.conf i c.in_ok-inputs.ensures.inputs in

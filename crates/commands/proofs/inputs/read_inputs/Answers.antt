@@ -6,7 +6,7 @@ use Rattle.refusals.specs.Refusals.{Step, Then}
 use Rattle.refusals.specs.declared.fault.Fault.{Fault}
 use Rattle.commands.proofs.SightSteps.{program_again, seen_from, configuration_from, refuses_as}
 use Rattle.commands.specs.Inputs.{IsProgramOfFile, IsConfiguration}
-use Rattle.commands.specs.Sights.{FileReading, file_read}
+use Rattle.commands.specs.Sights.{FileReading, reads}
 use Rattle.commands.specs.declared.inputs.Inputs.{Inputs}
 use Rattle.commands.proofs.inputs.read_inputs.Goals as goal
 
@@ -20,8 +20,8 @@ returns-in_err-conf-clause-inputs g c =
     let old = c.args.files.now in
     let mid = c.read_program.new.files in
     let new = c.read_configuration.new.files in
-    let sees : FileReading = file_read (holds old) (faults old) (faults new) in
-    let later : FileReading = file_read (holds mid) (faults mid) (faults new) in
+    let sees : FileReading = reads (holds old) (faults old) (faults new) in
+    let later : FileReading = reads (holds mid) (faults mid) (faults new) in
     let program = program_again (holds old) (faults old) (faults mid) (faults new) c.args.program.now c.in_ok-image.image c.in_ok-image.ensures.program in
     let more : (r : Result (List ℕ) Fault) → later c.args.conf.now r → sees c.args.conf.now r = seen_from (holds old) (holds mid) (faults old) (faults mid) (faults new) c.args.conf.now (c.in_ok-image.ensures.looks.same c.args.conf.now) (c.in_ok-image.ensures.looks.counts c.args.conf.now) in
     let why = refuses_as (λ fault. IsConfiguration later c.args.conf.now (Err fault)) (λ fault. IsConfiguration sees c.args.conf.now (Err fault)) c.in_err-conf.field-0.0 (λ fault. configuration_from later sees c.args.conf.now more (Err fault)) c.in_err-conf.ensures.configuration in
@@ -35,8 +35,8 @@ returns-clause-inputs g c =
     let old = c.args.files.now in
     let mid = c.read_program.new.files in
     let new = c.read_configuration.new.files in
-    let sees : FileReading = file_read (holds old) (faults old) (faults new) in
-    let later : FileReading = file_read (holds mid) (faults mid) (faults new) in
+    let sees : FileReading = reads (holds old) (faults old) (faults new) in
+    let later : FileReading = reads (holds mid) (faults mid) (faults new) in
     let program = program_again (holds old) (faults old) (faults mid) (faults new) c.args.program.now c.in_ok-image.image c.in_ok-image.ensures.program in
     let more : (r : Result (List ℕ) Fault) → later c.args.conf.now r → sees c.args.conf.now r = seen_from (holds old) (holds mid) (faults old) (faults mid) (faults new) c.args.conf.now (c.in_ok-image.ensures.looks.same c.args.conf.now) (c.in_ok-image.ensures.looks.counts c.args.conf.now) in
     let conf = configuration_from later sees c.args.conf.now more (Ok c.in_ok-conf.conf) c.in_ok-conf.ensures.configuration in

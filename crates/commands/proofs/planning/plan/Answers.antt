@@ -4,7 +4,7 @@ use Rattle.refusals.specs.Refusals.{Step, Then}
 use Rattle.commands.specs.Plans.{IsPlan}
 use Rattle.commands.specs.Found.{IsFound}
 use Rattle.commands.specs.Inputs.{AreInputs}
-use Rattle.commands.specs.Sights.{FileReading, file_read}
+use Rattle.commands.specs.Sights.{FileReading, reads}
 use Rattle.commands.specs.declared.inputs.Inputs.{Inputs}
 use Rattle.commands.specs.declared.texts.Texts.{Texts}
 use Rattle.commands.proofs.planning.plan.Goals as goal
@@ -12,7 +12,7 @@ use Rattle.commands.proofs.planning.plan.Goals as goal
 pub returns-in_err-found-clause-due : goal.returns-in_err-found-clause-due
 returns-in_err-found-clause-due g c =
     let p = asked_plan c.args.request.now in
-    let sees : FileReading = file_read (g.F.Files.holds c.args.files.now) (g.F.Files.faults c.args.files.now) (g.F.Files.faults c.read_inputs.new.files) in
+    let sees : FileReading = reads (g.F.Files.holds c.args.files.now) (g.F.Files.faults c.args.files.now) (g.F.Files.faults c.read_inputs.new.files) in
     let next : Inputs → Step Texts = λ i. Then (IsFound i.image p.harts i.conf) (IsPlan p) in
     let i = c.in_ok-inputs.inputs in
     comes_then (AreInputs sees p.program p.conf) next i c.from_residual-in_err-found.result c.in_ok-inputs.ensures.inputs
@@ -21,7 +21,7 @@ returns-in_err-found-clause-due g c =
 pub returns-clause-due : goal.returns-clause-due
 returns-clause-due g c =
     let p = asked_plan c.args.request.now in
-    let sees : FileReading = file_read (g.F.Files.holds c.args.files.now) (g.F.Files.faults c.args.files.now) (g.F.Files.faults c.read_inputs.new.files) in
+    let sees : FileReading = reads (g.F.Files.holds c.args.files.now) (g.F.Files.faults c.args.files.now) (g.F.Files.faults c.read_inputs.new.files) in
     let next : Inputs → Step Texts = λ i. Then (IsFound i.image p.harts i.conf) (IsPlan p) in
     let i = c.in_ok-inputs.inputs in
     comes_then (AreInputs sees p.program p.conf) next i c.plan_found.result c.in_ok-inputs.ensures.inputs

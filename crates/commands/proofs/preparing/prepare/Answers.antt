@@ -10,7 +10,7 @@ use Rattle.commands.specs.Found.{IsFound}
 use Rattle.commands.specs.Given.{inputs_with}
 use Rattle.commands.specs.Inputs.{AreInputs}
 use Rattle.commands.specs.Runs.{IsPrepared}
-use Rattle.commands.specs.Sights.{FileReading, file_read}
+use Rattle.commands.specs.Sights.{FileReading, reads}
 use Rattle.commands.specs.declared.finding.Found.{Found}
 use Rattle.commands.specs.declared.inputs.Inputs.{Inputs}
 use Rattle.commands.proofs.Prepared.{handed_gives}
@@ -19,7 +19,7 @@ use Rattle.commands.proofs.preparing.prepare.Goals as goal
 pub returns-in_err-inputs-clause-prepared : goal.returns-in_err-inputs-clause-prepared
 returns-in_err-inputs-clause-prepared g c =
     let r = asked_session c.args.request.now in
-    let sees : FileReading = file_read (g.F.Files.holds c.args.files.now) (g.F.Files.faults c.args.files.now) (g.F.Files.faults c.read_inputs.new.files) in
+    let sees : FileReading = reads (g.F.Files.holds c.args.files.now) (g.F.Files.faults c.args.files.now) (g.F.Files.faults c.read_inputs.new.files) in
     let ended : Inputs → Found → Step SessionInputs = λ read found i. i ≡ Ok (inputs_with read.image found r.settings) in
     let next : Inputs → Step SessionInputs = λ read. Then (IsFound read.image r.settings.harts read.conf) (ended read) in
     let e = c.in_err-inputs.field-0.0 in
@@ -29,7 +29,7 @@ returns-in_err-inputs-clause-prepared g c =
 pub returns-in_err-found-clause-prepared : goal.returns-in_err-found-clause-prepared
 returns-in_err-found-clause-prepared g c =
     let r = asked_session c.args.request.now in
-    let sees : FileReading = file_read (g.F.Files.holds c.args.files.now) (g.F.Files.faults c.args.files.now) (g.F.Files.faults c.read_inputs.new.files) in
+    let sees : FileReading = reads (g.F.Files.holds c.args.files.now) (g.F.Files.faults c.args.files.now) (g.F.Files.faults c.read_inputs.new.files) in
     let ended : Inputs → Found → Step SessionInputs = λ read found i. i ≡ Ok (inputs_with read.image found r.settings) in
     let next : Inputs → Step SessionInputs = λ read. Then (IsFound read.image r.settings.harts read.conf) (ended read) in
     let read = c.in_ok-inputs.inputs in
@@ -42,7 +42,7 @@ returns-in_err-found-clause-prepared g c =
 pub returns-clause-prepared : goal.returns-clause-prepared
 returns-clause-prepared g c =
     let r = asked_session c.args.request.now in
-    let sees : FileReading = file_read (g.F.Files.holds c.args.files.now) (g.F.Files.faults c.args.files.now) (g.F.Files.faults c.read_inputs.new.files) in
+    let sees : FileReading = reads (g.F.Files.holds c.args.files.now) (g.F.Files.faults c.args.files.now) (g.F.Files.faults c.read_inputs.new.files) in
     let ended : Inputs → Found → Step SessionInputs = λ read found i. i ≡ Ok (inputs_with read.image found r.settings) in
     let next : Inputs → Step SessionInputs = λ read. Then (IsFound read.image r.settings.harts read.conf) (ended read) in
     let read = c.in_ok-inputs.inputs in

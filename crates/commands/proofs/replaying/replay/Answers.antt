@@ -7,7 +7,7 @@ use Rattle.commands.proofs.SightSteps.{inputs_again, log_from, refuses_as, seen_
 use Rattle.commands.specs.Inputs.{AreInputs}
 use Rattle.commands.specs.Logs.{IsLog}
 use Rattle.commands.specs.Replays.{IsReplayOf}
-use Rattle.commands.specs.Sights.{FileReading, file_read}
+use Rattle.commands.specs.Sights.{FileReading, reads}
 use Rattle.commands.specs.declared.inputs.Inputs.{Inputs}
 use Rattle.commands.specs.declared.logs.Log.{Log}
 use Rattle.commands.specs.declared.texts.Texts.{Texts}
@@ -25,8 +25,8 @@ returns-in_err-log-clause-due g c =
     let old = c.args.files.now in
     let mid = c.read_inputs.new.files in
     let new = c.read_log.new.files in
-    let sees : FileReading = file_read (holds old) (faults old) (faults new) in
-    let later : FileReading = file_read (holds mid) (faults mid) (faults new) in
+    let sees : FileReading = reads (holds old) (faults old) (faults new) in
+    let later : FileReading = reads (holds mid) (faults mid) (faults new) in
     let i = c.in_ok-inputs.inputs in
     let inputs = inputs_again (holds old) (faults old) (faults mid) (faults new) r.program r.conf i c.in_ok-inputs.ensures.inputs in
     let more : (x : Result (List ℕ) Fault) → later r.log x → sees r.log x = seen_from (holds old) (holds mid) (faults old) (faults mid) (faults new) r.log (c.in_ok-inputs.ensures.looks.same r.log) (c.in_ok-inputs.ensures.looks.counts r.log) in
@@ -42,8 +42,8 @@ returns-clause-due g c =
     let old = c.args.files.now in
     let mid = c.read_inputs.new.files in
     let new = c.read_log.new.files in
-    let sees : FileReading = file_read (holds old) (faults old) (faults new) in
-    let later : FileReading = file_read (holds mid) (faults mid) (faults new) in
+    let sees : FileReading = reads (holds old) (faults old) (faults new) in
+    let later : FileReading = reads (holds mid) (faults mid) (faults new) in
     let i = c.in_ok-inputs.inputs in
     let inputs = inputs_again (holds old) (faults old) (faults mid) (faults new) r.program r.conf i c.in_ok-inputs.ensures.inputs in
     let more : (x : Result (List ℕ) Fault) → later r.log x → sees r.log x = seen_from (holds old) (holds mid) (faults old) (faults mid) (faults new) r.log (c.in_ok-inputs.ensures.looks.same r.log) (c.in_ok-inputs.ensures.looks.counts r.log) in

@@ -7,7 +7,7 @@ use Rattle.outside.specs.SureFiles.{held_in}
 use Rattle.refusals.specs.Refusals.{Comes}
 use Rattle.commands.specs.Preparing.{IsPreparedOf}
 use Rattle.commands.specs.Runs.{IsPrepared, stress_session, stress_sight}
-use Rattle.commands.specs.Sights.{FileReading, file_read}
+use Rattle.commands.specs.Sights.{FileReading, reads}
 use Rattle.commands.proofs.Prepared.{gives_as}
 use Rattle.commands.proofs.SightSteps.{prepared_from, seen_sure}
 use Rattle.stress_run.specs.Configuration.{configuration_text}
@@ -18,7 +18,7 @@ pub returns-clause-prepared : goal.returns-clause-prepared
 returns-clause-prepared c =
     let r = asked_stress c.args.request in
     let holds : List ℕ → Holding = held_in c.in_ok-files.files in
-    let sees : FileReading = file_read holds (λ name. 0) (λ name. 0) in
+    let sees : FileReading = reads holds (λ name. 0) (λ name. 0) in
     gives_as (IsPrepared stress_session sees) (IsPrepared stress_session (stress_sight r))
     (prepared_from sees (stress_sight r) stress_session
     (seen_sure holds (codes "program") (program_text r.procs r.seed) (ap (λ (b : List ℕ). Some (Some b)) c.in_ok-files.ensures.program))

@@ -1,5 +1,5 @@
 use Rattle.command_words.specs.Requests.{request_of}
-use Rattle.commands.specs.Sights.{file_read}
+use Rattle.commands.specs.Sights.{reads}
 use Rattle.headline.proofs.Meant.{tells}
 use Rattle.headline.proofs.Ranges.{ranged}
 use Rattle.headline.proofs.laws.owed_is_honest.Goals as goal
@@ -27,4 +27,4 @@ returns g c old new words texts owed =
       logs = c.spelled_is_read.ensures;
       fit = c.whole_quanta_fit.ensures;
     })
-    (file_read (g.F.Files.holds old) (g.F.Files.faults old) (g.F.Files.faults new)) (λ name bytes h. h.1) texts (request_of words) (ranged words) owed.due
+    (reads (g.F.Files.holds old) (g.F.Files.faults old) (g.F.Files.faults new)) (λ name bytes h. h.1) texts (request_of words) (ranged words) owed.due
