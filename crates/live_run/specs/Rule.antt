@@ -37,7 +37,7 @@ pub record IsFitting (inputs : Inputs) (first : List Quantum) (keeper : ℕ) (bo
 -- One view holds the book, and the word is the number of its entries. The lists' workers are those below the book's count of seats,
 -- each in one view. A list is the book's entries of its worker, in order, with their numbers. The book has no entry of another
 -- worker. Each noted hart was halted after as many entries as its note says.
-pub record IsShared (inputs : Inputs) (first : List Quantum) (words : List ℕ) (views : List View) : Type 0 where
+pub record IsBookRule (inputs : Inputs) (first : List Quantum) (words : List ℕ) (views : List View) : Type 0 where
   pub keeper : ℕ
   pub book : Book
   pub owner : ℕ → ℕ
@@ -49,7 +49,7 @@ pub record IsShared (inputs : Inputs) (first : List Quantum) (words : List ℕ) 
   pub workers : AllByRecursion (λ (q : Quantum). q.worker < book.seats) book.entries
 
 abbrev pub IsRuled : Inputs → List Quantum → State Quantum View → Type 0
-IsRuled inputs first s = IsShared inputs first s.words s.views
+IsRuled inputs first s = IsBookRule inputs first s.words s.views
 
 -- the view at the start: an empty book, which begins after the first quanta
 abbrev pub opening_view : List Quantum → View
