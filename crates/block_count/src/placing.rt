@@ -53,7 +53,8 @@ fn arm(alloc: Global, machine: &mut Machine, counter: &Counter) -> Result<(), No
     ensures { OnOk result (machine.new ≡ with_core machine.old (replay (arming counter.now ∷ []) machine.old.core)) }
 {
     let placed = counter.placed(alloc)?;
-    machine.arm(&placed);
+    // All its sites are linked, so it is armed.
+    let _armed = machine.arm(&placed);
     Ok(())
 }
 
