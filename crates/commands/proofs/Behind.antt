@@ -6,7 +6,7 @@ use Rattle.refusals.specs.declared.fault.Fault.{Fault}
 use Rattle.refusals.specs.declared.fault.Fault.TheVariants.{Usage, FileFault, BadProgram, BadConf, BadPick, BadLog, TooManyBlocks, BadDirectives, BadReport}
 use Rattle.refusals.specs.declared.refusal.Refusal.{Refusal}
 use Rattle.refusals.specs.declared.refusal.Refusal.TheVariants as refusal
-use Rattle.commands.specs.Sights.{Counted, Looks}
+use Rattle.commands.specs.FileReadings.{Counted, Looks}
 
 module _ {F : Type 0} (holds : F → List ℕ → Holding) (faults : F → List ℕ → ℕ) (old mid new : F) (same : (name : List ℕ) → holds mid name ≡ holds old name) (calm : IsCalm faults old mid) where
   calm_behind : IsCalm faults mid new → IsCalm faults old new

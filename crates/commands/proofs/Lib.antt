@@ -2,7 +2,7 @@ mod Behind
 mod Each
 mod FewItems
 mod Directed
-mod SightSteps
+mod FileReadingSteps
 mod PlanLemmas
 mod Inside
 mod Wished

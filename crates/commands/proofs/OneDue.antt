@@ -52,7 +52,7 @@ use Rattle.commands.specs.Runs.{AreTexts, IsByWorkers, IsInOrder, IsLiveDue, IsO
 use Rattle.commands.specs.Listing.{IsAsmDue}
 use Rattle.commands.specs.Plans.{metric_named, or_unknown, or_bad_focus, IsSelected, IsPlanText, IsPlanAt, IsPlan, IsPlanDue}
 use Rattle.commands.specs.Due.{AreLike, AreOne, IsDue, IsDueFor, is_live}
-use Rattle.commands.specs.Sights.{FileReading, limited, IsContent}
+use Rattle.commands.specs.FileReadings.{FileReading, limited, IsContent}
 use Rattle.commands.specs.declared.advising.TheConstants.{REPORT_LIMIT}
 use Rattle.commands.specs.declared.configuration.TheConstants.{CONFIGURATION_LIMIT}
 use Rattle.commands.specs.declared.directing.TheConstants.{DIRECTIVES_LIMIT}

@@ -59,7 +59,7 @@ use Rattle.commands.specs.Inputs.{begins_elf, or_bad_elf, or_bad_text, image_of,
 use Rattle.commands.specs.Logs.{or_bad_log, IsLog, IsLogContent, MeansLog}
 use Rattle.commands.specs.Replays.{replayed, IsReplay, IsReplayDue, IsReplayOf, IsReplayWith}
 use Rattle.commands.specs.Plans.{metric_named, or_unknown, or_bad_focus, IsSelected, IsPlanText, IsPlanAt, IsPlan}
-use Rattle.commands.specs.Sights.{FileReading, reads, limited, IsContent}
+use Rattle.commands.specs.FileReadings.{FileReading, reads, limited, IsContent}
 use Rattle.commands.specs.declared.advising.TheConstants.{REPORT_LIMIT}
 use Rattle.commands.specs.declared.configuration.TheConstants.{CONFIGURATION_LIMIT}
 use Rattle.commands.specs.declared.directing.TheConstants.{DIRECTIVES_LIMIT}

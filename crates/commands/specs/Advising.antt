@@ -9,7 +9,7 @@ use Rattle.refusals.specs.Refusals.{Step, Then}
 use Rattle.refusals.specs.declared.fault.Fault.{Fault}
 use Rattle.refusals.specs.declared.fault.Fault.TheVariants.{BadReport}
 use Rattle.commands.specs.Output.{output}
-use Rattle.commands.specs.Sights.{FileReading, IsContent}
+use Rattle.commands.specs.FileReadings.{FileReading, IsContent}
 use Rattle.commands.specs.declared.texts.Texts.{Texts}
 
 -- what the verdicts of a report advise, or its first fault

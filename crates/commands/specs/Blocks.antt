@@ -13,7 +13,7 @@ use Rattle.refusals.specs.Refusals.{Step, Then}
 use Rattle.refusals.specs.declared.fault.Fault.TheVariants.{TooManyBlocks}
 use Rattle.commands.specs.Output.{output}
 use Rattle.commands.specs.Inputs.{IsProgramOfFile}
-use Rattle.commands.specs.Sights.{FileReading}
+use Rattle.commands.specs.FileReadings.{FileReading}
 use Rattle.commands.specs.declared.texts.Texts.{Texts}
 
 abbrev pub pace_of : BlocksRequest → Pace

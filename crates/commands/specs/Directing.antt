@@ -19,7 +19,7 @@ use Rattle.commands.specs.Found.{IsFound}
 use Rattle.commands.specs.Given.{inputs_with}
 use Rattle.commands.specs.Inputs.{AreInputs}
 use Rattle.commands.specs.Runs.{IsInOrder, IsSession, report_alone}
-use Rattle.commands.specs.Sights.{FileReading, IsContent}
+use Rattle.commands.specs.FileReadings.{FileReading, IsContent}
 use Rattle.commands.specs.declared.inputs.Inputs.{Inputs as Read}
 use Rattle.commands.specs.declared.texts.Texts.{Texts}
 

@@ -11,7 +11,7 @@ use Rattle.commands.specs.Listing.{IsPointsDue, IsAsmDue}
 use Rattle.commands.specs.Plans.{IsPlanDue}
 use Rattle.commands.specs.Replays.{IsRelogDue, IsReplayDue}
 use Rattle.commands.specs.Runs.{IsRunDue, IsLiveDue, IsVisiDue, IsStressDue}
-use Rattle.commands.specs.Sights.{FileReading}
+use Rattle.commands.specs.FileReadings.{FileReading}
 use Rattle.commands.specs.declared.texts.Texts.{Texts}
 
 -- what is due for a request; words that are no command have none

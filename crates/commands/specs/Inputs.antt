@@ -16,7 +16,7 @@ use Rattle.refusals.specs.declared.fault.Fault.TheVariants.{BadProgram, BadConf}
 use Rattle.refusals.specs.declared.program.ProgramFault.TheVariants.{Elf, Asm, TooLong}
 use Rattle.rv_asm.specs.Assembly.{assembled}
 use Rattle.rv_asm.specs.declared.fault.AsmFault.{AsmFault}
-use Rattle.commands.specs.Sights.{FileReading, IsContent}
+use Rattle.commands.specs.FileReadings.{FileReading, IsContent}
 use Rattle.commands.specs.declared.inputs.Inputs.{Inputs}
 
 -- ---- programs

@@ -1,5 +1,5 @@
 pub mod Output
-pub mod Sights
+pub mod FileReadings
 pub mod Inputs
 pub mod Found
 pub mod Given

@@ -6,7 +6,7 @@ use Rattle.refusals.specs.Refusals.{Step, Then}
 use Rattle.report.specs.Points.{points_text}
 use Rattle.commands.specs.Inputs.{IsProgramOfFile, IsElfFile}
 use Rattle.commands.specs.Output.{output}
-use Rattle.commands.specs.Sights.{FileReading}
+use Rattle.commands.specs.FileReadings.{FileReading}
 use Rattle.commands.specs.declared.texts.Texts.{Texts}
 
 -- the points of the program of a name

@@ -14,7 +14,7 @@ use Rattle.refusals.specs.declared.fault.Fault.TheVariants.{BadLog}
 use Rattle.refusals.specs.declared.log.LogCause.TheVariants.{NotRunnable, OtherOwns, TooLong, Unfinished}
 use Rattle.whole_run.specs.declared.misfit.Misfit.{Misfit}
 use Rattle.whole_run.specs.declared.misfit.Misfit.TheVariants as misfit
-use Rattle.commands.specs.Sights.{FileReading, IsContent}
+use Rattle.commands.specs.FileReadings.{FileReading, IsContent}
 use Rattle.commands.specs.declared.logs.Log.{Log}
 
 -- the version of a log's bytes

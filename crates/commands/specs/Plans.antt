@@ -21,7 +21,7 @@ use Rattle.resource_tree.specs.Resources.{Resources}
 use Rattle.commands.specs.Found.{IsFound}
 use Rattle.commands.specs.Inputs.{AreInputs}
 use Rattle.commands.specs.Output.{output}
-use Rattle.commands.specs.Sights.{FileReading}
+use Rattle.commands.specs.FileReadings.{FileReading}
 use Rattle.commands.specs.declared.finding.Found.{Found}
 use Rattle.commands.specs.declared.texts.Texts.{Texts}
 

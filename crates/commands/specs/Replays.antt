@@ -16,7 +16,7 @@ use Rattle.commands.specs.Given.{inputs_with}
 use Rattle.commands.specs.Inputs.{AreInputs}
 use Rattle.commands.specs.Logs.{misfit_fault, IsLog}
 use Rattle.commands.specs.Runs.{IsOpened, report_alone}
-use Rattle.commands.specs.Sights.{FileReading}
+use Rattle.commands.specs.FileReadings.{FileReading}
 use Rattle.commands.specs.declared.finding.Found.{Found}
 use Rattle.commands.specs.declared.inputs.Inputs.{Inputs as Read}
 use Rattle.commands.specs.declared.logs.Log.{Log}

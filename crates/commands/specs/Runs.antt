@@ -25,7 +25,7 @@ use Rattle.commands.specs.Output.{output}
 use Rattle.commands.specs.Found.{IsFound}
 use Rattle.commands.specs.Given.{inputs_with, pick_fault}
 use Rattle.commands.specs.Inputs.{AreInputs}
-use Rattle.commands.specs.Sights.{FileReading}
+use Rattle.commands.specs.FileReadings.{FileReading}
 use Rattle.commands.specs.declared.texts.Texts.{Texts}
 
 -- A program and a configuration, as a session is given them.

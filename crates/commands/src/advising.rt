@@ -3,7 +3,7 @@
 ghost use Rattle.std.specs.Prelude.{◌≡◌};
 ghost use Rattle.advice.specs.Reading.{verdicts_of};
 ghost use Rattle.commands.specs.Advising.{advice_texts, IsAdviseDue};
-ghost use Rattle.commands.specs.Sights.{reads, Looks};
+ghost use Rattle.commands.specs.FileReadings.{reads, Looks};
 ghost use Rattle.refusals.specs.Refusals.{Comes};
 
 use crate::files::read_file;

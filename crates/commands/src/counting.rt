@@ -4,7 +4,7 @@ ghost use Rattle.command_words.specs.Asked.{asked_blocks};
 ghost use Rattle.command_words.specs.Requests.{HasRanges, blocks};
 ghost use Rattle.commands.specs.Blocks.{IsBlocksDue, AreCounted};
 ghost use Rattle.commands.specs.Given.{IsUnscratched};
-ghost use Rattle.commands.specs.Sights.{reads, Looks};
+ghost use Rattle.commands.specs.FileReadings.{reads, Looks};
 ghost use Rattle.pn_types.specs.Images.{IsImage};
 ghost use Rattle.refusals.specs.Refusals.{Comes};
 

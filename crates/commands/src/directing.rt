@@ -11,7 +11,7 @@ ghost use Rattle.mdl_shipped.specs.Shipped.{shipped_conf};
 ghost use Rattle.commands.specs.Directing.{MeansDirectives, AreDirectives, IsDirectDue, IsConfAfter, IsDirection, IsDirectRun};
 ghost use Rattle.commands.specs.Given.{inputs_with, CanRun, IsUnscratched};
 ghost use Rattle.commands.specs.Runs.{IsInOrder, IsSession, report_alone};
-ghost use Rattle.commands.specs.Sights.{reads, Looks};
+ghost use Rattle.commands.specs.FileReadings.{reads, Looks};
 ghost use Rattle.pn_types.specs.Images.{IsImage};
 ghost use Rattle.refusals.specs.Kinds.{fault_at};
 ghost use Rattle.refusals.specs.Refusals.{Comes};

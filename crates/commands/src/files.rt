@@ -1,7 +1,7 @@
 //! Reads files to their ends.
 
 ghost use Rattle.std.specs.Prelude.{◌≡◌, ◌≤◌, IfOk, length};
-ghost use Rattle.commands.specs.Sights.{reads, IsContent, Looks};
+ghost use Rattle.commands.specs.FileReadings.{reads, IsContent, Looks};
 ghost use Rattle.outside.specs.Outside.{IsBytes};
 ghost use Rattle.refusals.specs.Refusals.{Comes};
 

@@ -6,7 +6,7 @@ ghost use Rattle.code_points.specs.Procedures.{AreModulesGood};
 ghost use Rattle.mdl_ast.specs.Small.{HasSmall};
 ghost use Rattle.commands.specs.Given.{IsUnscratched};
 ghost use Rattle.commands.specs.Inputs.{IsProgramContent, IsProgramOfFile, IsElfFile, IsConfiguration, AreInputs};
-ghost use Rattle.commands.specs.Sights.{reads, Looks};
+ghost use Rattle.commands.specs.FileReadings.{reads, Looks};
 ghost use Rattle.pn_types.specs.Images.{IsImage};
 ghost use Rattle.refusals.specs.Refusals.{Comes};
 

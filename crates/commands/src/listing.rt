@@ -4,7 +4,7 @@ ghost use Rattle.std.specs.Prelude.{◌≡◌, IfOk};
 ghost use Rattle.code_points.specs.Points.{points_of};
 ghost use Rattle.code_points.specs.Procedures.{procedures_of, skipped_of};
 ghost use Rattle.commands.specs.Listing.{IsPointsDue, IsAsmDue};
-ghost use Rattle.commands.specs.Sights.{reads, Looks};
+ghost use Rattle.commands.specs.FileReadings.{reads, Looks};
 ghost use Rattle.pn_types.specs.Images.{IsImage};
 ghost use Rattle.refusals.specs.Refusals.{Comes};
 ghost use Rattle.report.specs.Points.{points_text};

@@ -2,7 +2,7 @@
 
 ghost use Rattle.std.specs.Prelude.{◌≡◌, ◌≤◌, IfOk, length};
 ghost use Rattle.commands.specs.Logs.{misfit_fault, version_in, IsLog, MeansLog};
-ghost use Rattle.commands.specs.Sights.{reads, Looks};
+ghost use Rattle.commands.specs.FileReadings.{reads, Looks};
 ghost use Rattle.pn_types.specs.declared.limits.TheConstants.{MAX_QUANTA};
 ghost use Rattle.quanta_log.specs.Fields.{entry_len, head_len, log_len};
 ghost use Rattle.quanta_log.specs.Meaning.{begins_as};

@@ -7,7 +7,7 @@ ghost use Rattle.command_words.specs.Requests.{HasRanges, plan};
 ghost use Rattle.mdl_ast.specs.declared.metric.Metric.{Metric};
 ghost use Rattle.mdl_check.specs.Sound.{IsSoundCheck};
 ghost use Rattle.commands.specs.Plans.{metric_named, IsSelected, IsPlanAt, IsPlan, IsPlanDue};
-ghost use Rattle.commands.specs.Sights.{reads, Looks};
+ghost use Rattle.commands.specs.FileReadings.{reads, Looks};
 ghost use Rattle.pn_types.specs.Images.{IsImage};
 ghost use Rattle.refusals.specs.Refusals.{Comes};
 

@@ -6,7 +6,7 @@ ghost use Rattle.command_words.specs.Asked.{asked_session};
 ghost use Rattle.commands.specs.Given.{inputs_with};
 ghost use Rattle.commands.specs.Preparing.{IsPreparedOf};
 ghost use Rattle.commands.specs.Runs.{IsPrepared};
-ghost use Rattle.commands.specs.Sights.{reads, Looks};
+ghost use Rattle.commands.specs.FileReadings.{reads, Looks};
 ghost use Rattle.pn_types.specs.Settings.{AreInRange};
 ghost use Rattle.refusals.specs.Refusals.{Comes};
 ghost use Rattle.session.specs.Given.{AreGiven};

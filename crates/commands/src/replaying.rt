@@ -7,7 +7,7 @@ ghost use Rattle.command_words.specs.Asked.{asked_replay};
 ghost use Rattle.mdl_ast.specs.Small.{HasSmall};
 ghost use Rattle.commands.specs.Given.{CanRun, IsUnscratched};
 ghost use Rattle.commands.specs.Replays.{IsRelogDue, IsReplay, IsReplayDue, IsReplayOf, IsReplayWith};
-ghost use Rattle.commands.specs.Sights.{reads, Looks};
+ghost use Rattle.commands.specs.FileReadings.{reads, Looks};
 ghost use Rattle.pn_types.specs.Images.{IsImage};
 ghost use Rattle.quanta_log.specs.Spelling.{CanSpell};
 ghost use Rattle.quanta_log.specs.declared.version.Version.TheVariants as version;

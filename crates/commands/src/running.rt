@@ -5,7 +5,7 @@ ghost use Rattle.code_points.specs.Procedures.{skipped_of};
 ghost use Rattle.command_words.specs.Asked.{asked_run};
 ghost use Rattle.command_words.specs.Requests.{HasRanges, IsOrderInRange, run};
 ghost use Rattle.commands.specs.Runs.{IsInOrder, IsRunDue, IsSession, report_and_log};
-ghost use Rattle.commands.specs.Sights.{reads, Looks};
+ghost use Rattle.commands.specs.FileReadings.{reads, Looks};
 ghost use Rattle.refusals.specs.Refusals.{Comes};
 ghost use Rattle.session.specs.Given.{AreGiven};
 

@@ -5,7 +5,7 @@ ghost use Rattle.code_points.specs.Procedures.{skipped_of};
 ghost use Rattle.command_words.specs.Asked.{asked_live};
 ghost use Rattle.command_words.specs.Requests.{HasRanges, IsQuantum, live};
 ghost use Rattle.commands.specs.Runs.{IsByWorkers, IsLiveDue, IsSession, report_and_log};
-ghost use Rattle.commands.specs.Sights.{reads, Looks};
+ghost use Rattle.commands.specs.FileReadings.{reads, Looks};
 ghost use Rattle.refusals.specs.Refusals.{Comes};
 ghost use Rattle.session.specs.Given.{AreGiven};
 

@@ -4,7 +4,7 @@ ghost use Rattle.std.specs.Prelude.{◌≤◌};
 ghost use Rattle.command_words.specs.Asked.{asked_visi};
 ghost use Rattle.command_words.specs.Requests.{HasRanges, IsOrderInRange, visi};
 ghost use Rattle.commands.specs.Runs.{IsInOrder, IsSession, IsVisiDue, views_of};
-ghost use Rattle.commands.specs.Sights.{reads, Looks};
+ghost use Rattle.commands.specs.FileReadings.{reads, Looks};
 ghost use Rattle.refusals.specs.Refusals.{Comes};
 ghost use Rattle.session.specs.Given.{AreGiven};
 

@@ -10,7 +10,7 @@ use Rattle.refusals.specs.declared.fault.Fault.TheVariants.{Usage, FileFault, Ba
 use Rattle.headline.specs.Answers.{status_of, texts_of}
 use Rattle.headline.specs.Delivery.{IsTorn}
 use Rattle.commands.specs.Due.{AreOne, IsDue, is_live}
-use Rattle.commands.specs.Sights.{reads, Looks}
+use Rattle.commands.specs.FileReadings.{reads, Looks}
 use Rattle.refusals.specs.Refusals.{Comes}
 use Rattle.refusals.specs.declared.refusal.Refusal.{Refusal}
 use Rattle.headline.specs.Serving.{AreGained, AreFilesKnown, AreTorn, IsOwed, IsServedCall, IsUnchangedCount, IsUntold, OneOwed, told_of}

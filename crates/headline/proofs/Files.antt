@@ -24,7 +24,7 @@ use Rattle.rv_asm.specs.Assembly.{assembled}
 use Rattle.rv_asm.specs.declared.fault.AsmFault.{AsmFault}
 use Rattle.commands.specs.Inputs.{AreInputs, IsConfContent, IsConfiguration, IsProgramOfFile, IsProgramContent, MeansConf, image_of}
 use Rattle.commands.specs.Logs.{IsLog, IsLogContent, MeansLog, log_with, or_bad_log}
-use Rattle.commands.specs.Sights.{FileReading}
+use Rattle.commands.specs.FileReadings.{FileReading}
 use Rattle.commands.specs.declared.inputs.Inputs.{Inputs}
 use Rattle.headline.specs.Headline.{IsConfigurationOf, IsProgramOf}
 use Rattle.headline.proofs.Steps.{Came, came, content_of, ok_is}

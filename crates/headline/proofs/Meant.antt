@@ -64,7 +64,7 @@ use Rattle.commands.specs.Plans.{IsPlan, IsPlanDue}
 use Rattle.commands.specs.Replays.{IsRelogDue, IsReplay, IsReplayDue, IsReplayOf, replayed}
 use Rattle.commands.specs.Runnable.{FoundCanRun, MakesOf}
 use Rattle.commands.specs.Runs.{AreTexts, IsByWorkers, IsInOrder, IsLiveDue, IsPrepared, IsRunDue, IsSession, IsSessionOf, IsStressDue, IsVisiDue, Order, report_alone, report_and_log, stress_order, stress_session, stress_sight, summary_of, views_of}
-use Rattle.commands.specs.Sights.{FileReading}
+use Rattle.commands.specs.FileReadings.{FileReading}
 use Rattle.commands.specs.declared.finding.Found.{Found}
 use Rattle.commands.specs.declared.inputs.Inputs.{Inputs}
 use Rattle.commands.specs.declared.texts.Texts.{Texts}

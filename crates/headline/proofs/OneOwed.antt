@@ -14,7 +14,7 @@ use Rattle.commands.proofs.OneDue.{Laws, due_once, of_same}
 use Rattle.commands.proofs.Rising.{NotFile, rises}
 use Rattle.commands.specs.Due.{AreOne, is_live}
 use Rattle.headline.specs.Serving.{AreFilesKnown, IsOwed}
-use Rattle.commands.specs.Sights.{reads, Counted}
+use Rattle.commands.specs.FileReadings.{reads, Counted}
 use Rattle.commands.specs.declared.texts.Texts.{Texts}
 
 -- what may be told of a fault

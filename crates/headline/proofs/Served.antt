@@ -8,7 +8,7 @@ use Rattle.refusals.specs.declared.refusal.Refusal.{Refusal}
 use Rattle.refusals.specs.declared.refusal.Refusal.TheVariants as refusal
 use Rattle.commands.specs.Due.{IsDue}
 use Rattle.headline.specs.Serving.{IsOwed, IsUntold, told_of}
-use Rattle.commands.specs.Sights.{reads, Counted, Looks}
+use Rattle.commands.specs.FileReadings.{reads, Counted, Looks}
 use Rattle.commands.specs.declared.texts.Texts.{Texts}
 
 module _ {F : Type 0} (holds : F → List ℕ → Holding) (faults : F → List ℕ → ℕ) (old new : F) (words : List (List ℕ)) where

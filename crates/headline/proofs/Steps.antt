@@ -8,7 +8,7 @@ use Rattle.session_spec.specs.Inputs.{Inputs}
 use Rattle.session_spec.specs.declared.data.RefusedWish.{RefusedWish}
 use Rattle.commands.specs.Given.{pick_fault}
 use Rattle.commands.specs.Runs.{IsOpened}
-use Rattle.commands.specs.Sights.{IsContent, FileReading, limited}
+use Rattle.commands.specs.FileReadings.{IsContent, FileReading, limited}
 use Rattle.commands.specs.declared.texts.Texts.{Texts}
 
 -- where two steps came to a value, the first came to one, and the second after it

@@ -1,7 +1,7 @@
 -- What follows for a call that serves words.
 use Rattle.std.proofs.Common.{◌≡◌, ◌≢◌, ℕ, List, Option, Result, Ok, Err, sym, ◌∙◌, arith}
 use Rattle.command_words.specs.Requests.{request_of}
-use Rattle.commands.specs.Sights.{reads}
+use Rattle.commands.specs.FileReadings.{reads}
 use Rattle.commands.specs.declared.texts.Texts.{Texts}
 use Rattle.outside.specs.Outside.{Holding}
 use Rattle.headline.specs.Answers.{status_of, texts_of}

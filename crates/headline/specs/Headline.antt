@@ -15,7 +15,7 @@ use Rattle.commands.specs.Output.{output}
 use Rattle.commands.specs.Plans.{IsPlan}
 use Rattle.commands.specs.Runnable.{IsConfOf, IsImageOf}
 use Rattle.commands.specs.Runs.{IsByWorkers, IsInOrder, Order, stress_order, stress_session, stress_sight}
-use Rattle.commands.specs.Sights.{FileReading}
+use Rattle.commands.specs.FileReadings.{FileReading}
 use Rattle.commands.specs.declared.finding.Found.{Found}
 use Rattle.commands.specs.declared.texts.Texts.{Texts}
 use Rattle.directives.specs.Acts.{applied}

@@ -1,7 +1,7 @@
 -- What the program is called with, and what it does.
 use Rattle.std.specs.Prelude.{◌≡◌, ℕ, List, [], map, string_bytes, Option, Some, None, Ok}
 use Rattle.command_words.specs.Requests.{request_of}
-use Rattle.commands.specs.Sights.{reads}
+use Rattle.commands.specs.FileReadings.{reads}
 use Rattle.commands.specs.declared.texts.Texts.{Texts}
 use Rattle.outside.specs.Outside.{Holding}
 use Rattle.headline.specs.Serving.{AreGained, IsOwed, IsServedCall}

@@ -9,7 +9,7 @@ use Rattle.refusals.specs.declared.refusal.Refusal.TheVariants as refusal
 use Rattle.headline.specs.Answers.{status_of, texts_of}
 use Rattle.headline.specs.Delivery.{IsTorn, Gained}
 use Rattle.commands.specs.Due.{AreOne, IsDue, is_live}
-use Rattle.commands.specs.Sights.{reads, CountedFor}
+use Rattle.commands.specs.FileReadings.{reads, CountedFor}
 use Rattle.commands.specs.declared.texts.Texts.{Texts}
 use Rattle.headline.specs.declared.top.Reply.{Reply}
 

@@ -4,7 +4,7 @@ ghost use Rattle.std.specs.Prelude.{◌≡◌, false, Some, map, string_bytes};
 ghost use Rattle.command_words.specs.Asked.{asked};
 ghost use Rattle.command_words.specs.Requests.{begins_threaded, HasRanges, IsUnthreaded};
 ghost use Rattle.commands.specs.Due.{IsDue, IsDueFor};
-ghost use Rattle.commands.specs.Sights.{reads, Looks};
+ghost use Rattle.commands.specs.FileReadings.{reads, Looks};
 ghost use Rattle.refusals.specs.Refusals.{Comes};
 
 use command_words::{Request, WordFault, read_request};

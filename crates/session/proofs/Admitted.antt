@@ -21,7 +21,7 @@ use Rattle.session_spec.proofs.Going.{wish_time}
 use Rattle.session_pairs.specs.declared.pair.SampledPair.{SampledPair}
 use Rattle.session_pairs.specs.SampledPairs.{AreLive}
 use Rattle.session_pairs.proofs.Dropped.{shown_in}
-use Rattle.session.specs.Tables.{IsAfterAdmission, IsCount, IsMore, IsNew, IsStill, Table, hist_at, kept_of}
+use Rattle.session.specs.Tables.{IsAfterAdmission, IsCount, IsMore, IsNew, IsStill, StateTable, hist_at, kept_of}
 use Rattle.session.proofs.Counting.{count_low, take_many}
 use Rattle.session.proofs.Steps.{none_more, still_first}
 
@@ -103,7 +103,7 @@ hists_more i old new m =
 -- ---- an admission
 
 -- no work was done
-pub no_admission : (i : Inputs) (later : List CheckedWish) (t : Table) → t.worked ≡ false → AreLive t.machine.state.placer t.pairs t.live → IsAfterAdmission i later t t 0
+pub no_admission : (i : Inputs) (later : List CheckedWish) (t : StateTable) → t.worked ≡ false → AreLive t.machine.state.placer t.pairs t.live → IsAfterAdmission i later t t 0
 unfolding with_admission
 no_admission i later t e live = record {
   looked = omega arith;
@@ -114,7 +114,7 @@ no_admission i later t e live = record {
   stays = still_first t;
 }
 
-some_admitted : (i : Inputs) (later : List CheckedWish) (n : ℕ) (t new : Table) → t.worked ≡ true → IsCount t.time later n
+some_admitted : (i : Inputs) (later : List CheckedWish) (n : ℕ) (t new : StateTable) → t.worked ≡ true → IsCount t.time later n
     → kept_of (drop n later) new ≡ with_tests i (with_all i (take n later) (kept_of (drop n later) t)) → kept_of (drop n later) (record new { worked = false }) ≡ with_admission i (kept_of later t)
 unfolding with_admission
 some_admitted i later n t new e c kept =
@@ -122,14 +122,14 @@ some_admitted i later n t new e c kept =
     ∙ sym (ap (λ b. cond b (record (with_tests i (with_wishes i later (kept_of later t))) { worked = false }) (kept_of later t)) e)
 
 -- the wishes were looked at and the nodes taken, and the admission was done
-pub one_admission : (i : Inputs) (later : List CheckedWish) (n : ℕ) (t admitted new : Table) → t.worked ≡ true → IsCount t.time later n
+pub one_admission : (i : Inputs) (later : List CheckedWish) (n : ℕ) (t admitted new : StateTable) → t.worked ≡ true → IsCount t.time later n
     → ((ws : List CheckedWish) → kept_of ws admitted ≡ with_tests i (with_all i (take n later) (kept_of ws t))) → IsMore i t.pairs admitted.pairs → length admitted.pairs ≤ length t.pairs + length (take n later) + taken_at_once
     → IsStill t admitted → AreLive admitted.machine.state.placer admitted.pairs admitted.live → new ≡ record admitted { worked = false } → IsAfterAdmission i later t new n
 one_admission i later n t admitted new worked count kept pairs few still live is =
     let low = count_low t.time later n count in
     let len = take_many n later low in
-    let stays : IsStill t (record admitted { worked = false }) = record { same = ap (λ (x : Table). record x { worked = false }) still.same; core = still.core; rules = still.rules } in
-    subst (λ (x : Table). IsAfterAdmission i later t x n) (sym is) (record {
+    let stays : IsStill t (record admitted { worked = false }) = record { same = ap (λ (x : StateTable). record x { worked = false }) still.same; core = still.core; rules = still.rules } in
+    subst (λ (x : StateTable). IsAfterAdmission i later t x n) (sym is) (record {
       looked = low;
       kept = some_admitted i later n t admitted worked count (kept (drop n later));
       pairs = pairs;

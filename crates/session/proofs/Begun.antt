@@ -13,7 +13,7 @@ use Rattle.session_spec.specs.States.{SessionState}
 use Rattle.session_pairs.specs.declared.pair.SampledPair.{SampledPair}
 use Rattle.session.specs.Given.{AreGiven, AreNarrow, IsWishOf}
 use Rattle.session_pairs.specs.SampledPairs.{AreLive}
-use Rattle.session.specs.Contenders.{HasCost, first_search}
+use Rattle.session.specs.NodeCandidates.{HasCost, first_search}
 use Rattle.rv_mem.specs.Start.{program_of}
 use Rattle.session_spec.specs.Searches.{rules_of}
 use Rattle.session.specs.Kept.{IsWished}
@@ -21,7 +21,7 @@ use Rattle.std.specs.Result.{IsErrAnd}
 use Rattle.session.specs.declared.fault.StartFault.{StartFault}
 use Rattle.session.specs.declared.fault.StartFault.TheVariants.{NoMemory}
 use Rattle.session.specs.Sessions.{IsStartFault}
-use Rattle.session.specs.Tables.{IsMore, IsStill, Table, first_table, kept_of}
+use Rattle.session.specs.Tables.{IsMore, IsStill, StateTable, first_table, kept_of}
 use Rattle.session.proofs.Plans.{all_good}
 use Rattle.session_spec.proofs.Queues.{tests_refused}
 
@@ -83,47 +83,47 @@ later_given i g w h = g.wishes w (filter_in (λ (v : CheckedWish). not (v.at == 
 -- ---- the admissions of the opening
 
 -- what is asked for them
-module _ (i : Inputs) (t : Table) (e : t ≡ first_table i) where
+module _ (i : Inputs) (t : StateTable) (e : t ≡ first_table i) where
   pub first_rules : t.search.rules ≡ rules_of i
   unfolding first_search
-  first_rules = ap (λ (x : Table). x.search.rules) e
+  first_rules = ap (λ (x : StateTable). x.search.rules) e
 
   pub first_program : t.machine.state.core.program ≡ program_of i.image
-  first_program = ap (λ (x : Table). x.machine.state.core.program) e
+  first_program = ap (λ (x : StateTable). x.machine.state.core.program) e
 
   pub first_costs : AllByRecursion (HasCost i) t.pairs
-  first_costs = subst (λ (x : Table). AllByRecursion (HasCost i) x.pairs) (sym e) tt
+  first_costs = subst (λ (x : StateTable). AllByRecursion (HasCost i) x.pairs) (sym e) tt
 
   pub first_few : AreGiven i → (wishes : List CheckedWish) → wishes ≡ first_wishes i → length t.pairs + length wishes + taken_at_once < 2 ^ 31
   first_few g wishes w =
-      let none = ap (λ (x : Table). length x.pairs) e in
+      let none = ap (λ (x : StateTable). length x.pairs) e in
       let many = ap (λ (l : List CheckedWish). length l) w in
       let all = all_wishes i in
       let few = g.few_wishes in
       omega arith
 
 -- the wishes were looked at, and the first nodes taken
-pub wished_is : (i : Inputs) (first t : Table) → first ≡ first_table i → AreGiven i → AreNarrow i → ((ws : List CheckedWish) → kept_of ws t ≡ with_tests i (with_all i (first_wishes i) (kept_of ws first))) → IsMore i first.pairs t.pairs
+pub wished_is : (i : Inputs) (first t : StateTable) → first ≡ first_table i → AreGiven i → AreNarrow i → ((ws : List CheckedWish) → kept_of ws t ≡ with_tests i (with_all i (first_wishes i) (kept_of ws first))) → IsMore i first.pairs t.pairs
     → length t.pairs ≤ length first.pairs + length (first_wishes i) + taken_at_once → AreLive t.machine.state.placer t.pairs t.live → IsStill first t → IsProgram i.image → IsWished i t
 unfolding wished first_search
 wished_is i first t e g narrow kept pairs few live still program =
-    let none : first.pairs ≡ [] = ap (λ (x : Table). x.pairs) e in
+    let none : first.pairs ≡ [] = ap (λ (x : StateTable). x.pairs) e in
     let l = ap (λ (x : List SampledPair). length x) none in
     record {
       program = program;
       good = all_good i g narrow;
-      kept = kept (later_wishes i) ∙ ap (λ (x : Table). with_tests i (with_all i (first_wishes i) (kept_of (later_wishes i) x))) e;
+      kept = kept (later_wishes i) ∙ ap (λ (x : StateTable). with_tests i (with_all i (first_wishes i) (kept_of (later_wishes i) x))) e;
       pairs = subst (λ (x : List SampledPair). IsMore i x t.pairs) none pairs;
       few = omega arith;
       live = live;
-      still = subst (λ (x : Table). IsStill x t) e still;
+      still = subst (λ (x : StateTable). IsStill x t) e still;
     }
 
 -- a wish that is refused is refused whatever nodes are taken
-pub wished_refused : (i : Inputs) (first t : Table) → first ≡ first_table i → ((ws : List CheckedWish) → kept_of ws t ≡ with_tests i (with_all i (first_wishes i) (kept_of ws first))) → t.refused ≡ (wished i).refused
+pub wished_refused : (i : Inputs) (first t : StateTable) → first ≡ first_table i → ((ws : List CheckedWish) → kept_of ws t ≡ with_tests i (with_all i (first_wishes i) (kept_of ws first))) → t.refused ≡ (wished i).refused
 unfolding wished first_search
 wished_refused i first t e kept =
-    let all = kept (later_wishes i) ∙ ap (λ (x : Table). with_tests i (with_all i (first_wishes i) (kept_of (later_wishes i) x))) e in
+    let all = kept (later_wishes i) ∙ ap (λ (x : StateTable). with_tests i (with_all i (first_wishes i) (kept_of (later_wishes i) x))) e in
     ap (λ (k : SessionState). k.refused) all ∙ tests_refused i (wished i)
 
 -- out of memory

@@ -14,12 +14,12 @@ use Rattle.session_pairs.specs.SampledPairs.{AreLive}
 use Rattle.session.specs.declared.candidate.Candidate.{Candidate}
 use Rattle.session.specs.Candidates.{AreOfWishes}
 use Rattle.session.specs.Outcomes.{IsAdmissionStep}
-use Rattle.session.specs.Tables.{AreReady, Table, kept_of}
+use Rattle.session.specs.Tables.{AreReady, StateTable, kept_of}
 use Rattle.session.proofs.Readiness.{drop_step, ready_behind, ready_in}
 use Rattle.session.proofs.Steps.{AreSteps, next_step, no_steps}
 
 -- the wish at a place is next
-pub record Considering (i : Inputs) (wishes : List CheckedWish) (plans : List Plan) (old : Table) (place : ℕ) (t : Table) (cs : List (Option Candidate)) : Type 0 where
+pub record Considering (i : Inputs) (wishes : List CheckedWish) (plans : List Plan) (old : StateTable) (place : ℕ) (t : StateTable) (cs : List (Option Candidate)) : Type 0 where
   pub kept : (ws : List CheckedWish) → with_all i (drop place wishes) (kept_of ws t) ≡ with_all i wishes (kept_of ws old)
   pub steps : AreSteps i old t place
   pub some : length wishes ≤ old.room
@@ -29,7 +29,7 @@ pub record Considering (i : Inputs) (wishes : List CheckedWish) (plans : List Pl
   pub ready : AreReady (map need_of (drop place plans)) t.machine.ready
   pub left : (needs : List Need) → AreReady (map need_of plans ++ needs) old.machine.ready → AreReady (map need_of (drop place plans) ++ needs) t.machine.ready
 
-pub first : (i : Inputs) (wishes : List CheckedWish) (plans : List Plan) (old : Table) (cs : List (Option Candidate)) → length wishes ≤ old.room → old.machine.state.core.program ≡ program_of i.image
+pub first : (i : Inputs) (wishes : List CheckedWish) (plans : List Plan) (old : StateTable) (cs : List (Option Candidate)) → length wishes ≤ old.room → old.machine.state.core.program ≡ program_of i.image
     → AreOfWishes i wishes plans cs → AreReady (map need_of plans) old.machine.ready → AreLive old.machine.state.placer old.pairs old.live → Considering i wishes plans old 0 old cs
 first i wishes plans old cs some program each ready live = record {
   kept = λ ws. refl;
@@ -42,7 +42,7 @@ first i wishes plans old cs some program each ready live = record {
   left = λ needs r. r;
 }
 
-module _ (i : Inputs) (wishes : List CheckedWish) (plans : List Plan) (old : Table) (place : ℕ) (t : Table) (all cs : List (Option Candidate)) (w : CheckedWish) (plan : Plan) (c : Option Candidate)
+module _ (i : Inputs) (wishes : List CheckedWish) (plans : List Plan) (old : StateTable) (place : ℕ) (t : StateTable) (all cs : List (Option Candidate)) (w : CheckedWish) (plan : Plan) (c : Option Candidate)
     (k : Considering i wishes plans old place t all) (is_w : slice_get wishes place ≡ Some w) (is_plan : slice_get plans place ≡ Some plan) (is_c : all ≡ c ∷ cs) where
   heads : AreOfWishes i (w ∷ drop (place + 1) wishes) (plan ∷ drop (place + 1) plans) (c ∷ cs)
   heads =
@@ -59,7 +59,7 @@ module _ (i : Inputs) (wishes : List CheckedWish) (plans : List Plan) (old : Tab
   pub ready_here : In (need_of plan) t.machine.ready
   ready_here = ready_in (need_of plan) rest t.machine.ready needed
 
-  pub next : (new : Table) → ((ws : List CheckedWish) → kept_of ws new ≡ with_wish i w (kept_of ws t)) → IsAdmissionStep i plan t new → new.search ≡ t.search → Considering i wishes plans old (place + 1) new cs
+  pub next : (new : StateTable) → ((ws : List CheckedWish) → kept_of ws new ≡ with_wish i w (kept_of ws t)) → IsAdmissionStep i plan t new → new.search ≡ t.search → Considering i wishes plans old (place + 1) new cs
   next new kept step search = record {
     kept = λ ws. ap (with_all i (drop (place + 1) wishes)) (kept ws) ∙ (sym (ap (λ vs. with_all i vs (kept_of ws t)) (drop_step wishes place w is_w)) ∙ k.kept ws);
     steps = next_step i plan old t new place k.steps step;
@@ -83,7 +83,7 @@ plans_many i (w ∷ ws) (p ∷ ps) [] a = absurd a
 plans_many i (w ∷ ws) (p ∷ ps) (c ∷ cs) a = ap suc (plans_many i ws ps cs a.1)
 
 -- no wish is without what it needs
-pub none_left : (i : Inputs) (wishes : List CheckedWish) (plans : List Plan) (old : Table) (place : ℕ) (t : Table) (w : CheckedWish) → Considering i wishes plans old place t [] → slice_get wishes place ≡ Some w → ⊥
+pub none_left : (i : Inputs) (wishes : List CheckedWish) (plans : List Plan) (old : StateTable) (place : ℕ) (t : StateTable) (w : CheckedWish) → Considering i wishes plans old place t [] → slice_get wishes place ≡ Some w → ⊥
 none_left i wishes plans old place t w k e = by (drop place plans) (subst (λ vs. AreOfWishes i vs (drop place plans) []) (drop_step wishes place w e) k.each)
   where
     by : (ps : List Plan) → AreOfWishes i (w ∷ drop (place + 1) wishes) ps [] → ⊥

@@ -15,7 +15,7 @@ use Rattle.session_pairs.specs.declared.pair.SampledPair.{SampledPair}
 use Rattle.session_pairs.specs.SampledPairs.{AreLiveFrom, is_gone_test}
 use Rattle.session_pairs.proofs.Dropped.{shown_in}
 use Rattle.session_pairs.proofs.Sums.{force_live, sum_at}
-use Rattle.session.specs.Contenders.{HasCost, counted, force_in}
+use Rattle.session.specs.NodeCandidates.{HasCost, counted, force_in}
 use Rattle.session.specs.Tables.{IsMore, IsNew}
 
 -- ---- by the definitions

@@ -29,20 +29,20 @@ use Rattle.session.specs.Kept.{IsTableAfter, IsSoundPair}
 use Rattle.session_pairs.specs.SampledPairs.{HasFew, HasHarts}
 use Rattle.session.proofs.SoundPairs.{more_sound}
 use Rattle.session.specs.Sessions.{state_at}
-use Rattle.session.specs.Contenders.{HasCost}
-use Rattle.session.specs.Tables.{CanSample, IsAfterAdmission, Table, kept_of, lasts_in}
+use Rattle.session.specs.NodeCandidates.{HasCost}
+use Rattle.session.specs.Tables.{CanSample, IsAfterAdmission, StateTable, kept_of, lasts_in}
 
 -- a session that wasn't closed
 pub going_state : (i : Inputs) (quanta : List Quantum) (over : Bool) → over ≡ false → state_at i quanta over ≡ after_quanta i quanta
 going_state i quanta over e = ap (λ b. cond b (final_state i (after_quanta i quanta)) (after_quanta i quanta)) e
 
-pub core_is : (i : Inputs) (quanta : List Quantum) (over : Bool) (later : List CheckedWish) (t : Table) → IsTableAfter i quanta over later t → t.machine.state.core ≡ (state_at i quanta over).kept.machine.core
+pub core_is : (i : Inputs) (quanta : List Quantum) (over : Bool) (later : List CheckedWish) (t : StateTable) → IsTableAfter i quanta over later t → t.machine.state.core ≡ (state_at i quanta over).kept.machine.core
 core_is i quanta over later t k = ap (λ (x : SessionState). x.machine.core) k.state.kept
 
-pub open_is : (i : Inputs) (quanta : List Quantum) (over : Bool) (later : List CheckedWish) (t : Table) (h : ℕ) → IsTableAfter i quanta over later t → is_runnable t.machine.state.core h ≡ true → is_runnable (state_at i quanta over).kept.machine.core h ≡ true
+pub open_is : (i : Inputs) (quanta : List Quantum) (over : Bool) (later : List CheckedWish) (t : StateTable) (h : ℕ) → IsTableAfter i quanta over later t → is_runnable t.machine.state.core h ≡ true → is_runnable (state_at i quanta over).kept.machine.core h ≡ true
 open_is i quanta over later t h k e = ap (λ c. is_runnable c h) (sym (core_is i quanta over later t k)) ∙ e
 
-pub stuck : (i : Inputs) (quanta : List Quantum) (over : Bool) (later : List CheckedWish) (t : Table) (h : ℕ) → IsTableAfter i quanta over later t → over ≡ false → is_runnable t.machine.state.core h ≡ false → Halted i quanta h
+pub stuck : (i : Inputs) (quanta : List Quantum) (over : Bool) (later : List CheckedWish) (t : StateTable) (h : ℕ) → IsTableAfter i quanta over later t → over ≡ false → is_runnable t.machine.state.core h ≡ false → Halted i quanta h
 unfolding Halted
 stuck i quanta over later t h k going e = inl (ap (λ (x : State). is_runnable x.kept.machine.core h) (sym (going_state i quanta over going)) ∙ (ap (λ c. is_runnable c h) (sym (core_is i quanta over later t k)) ∙ e))
 
@@ -56,13 +56,13 @@ not_halted i quanta over h going e l (inl stops) = true≢false (sym e ∙ (ap (
 not_halted i quanta over h going e l (inr many) = absurd (omega arith)
 
 -- no hart has more ticks than the budget
-pub budget_kept : (i : Inputs) (quanta : List Quantum) (over : Bool) (later : List CheckedWish) (t : Table) → IsTableAfter i quanta over later t → KeepsBudget t.machine.state.core
+pub budget_kept : (i : Inputs) (quanta : List Quantum) (over : Bool) (later : List CheckedWish) (t : StateTable) → IsTableAfter i quanta over later t → KeepsBudget t.machine.state.core
 budget_kept i quanta over later t k =
     subst (λ (c : Core). KeepsBudget c) (sym (core_is i quanta over later t k)) (is_run i (state_at i quanta over) (lasts_in t.pairs) k.state.sound).budget
 
--- ---- what a call asks of a desk that is kept
+-- ---- what a call asks of a stored that is kept
 
-pub program_kept : (i : Inputs) (quanta : List Quantum) (over : Bool) (later : List CheckedWish) (t : Table) → IsTableAfter i quanta over later t → t.machine.state.core.program ≡ program_of i.image
+pub program_kept : (i : Inputs) (quanta : List Quantum) (over : Bool) (later : List CheckedWish) (t : StateTable) → IsTableAfter i quanta over later t → t.machine.state.core.program ≡ program_of i.image
 program_kept i quanta over later t k =
     let tied = k.state.sound.tied in
     ap (λ (c : Core). c.program) (core_is i quanta over later t k) ∙ program_is i (state_at i quanta over).kept.machine (state_at i quanta over).owns (state_at i quanta over).kept.shown (lasts_in t.pairs) tied
@@ -90,7 +90,7 @@ first_ticks : (more h n : ℕ) (image : Image) → ticks_in (map first_hart (har
 first_ticks zero h n image = refl
 first_ticks (suc more) h n image = let rest = first_ticks more (h + 1) n image in omega arith
 
-module _ (i : Inputs) (quanta : List Quantum) (over : Bool) (later : List CheckedWish) (t : Table) (k : IsTableAfter i quanta over later t) where
+module _ (i : Inputs) (quanta : List Quantum) (over : Bool) (later : List CheckedWish) (t : StateTable) (k : IsTableAfter i quanta over later t) where
   marks_many : length t.marks ≡ i.settings.harts
   marks_many =
       let state = state_at i quanta over in
@@ -129,16 +129,16 @@ module _ (i : Inputs) (quanta : List Quantum) (over : Bool) (later : List Checke
       }
 
 -- after an admission
-module _ (i : Inputs) (quanta : List Quantum) (over : Bool) (later : List CheckedWish) (t admitted : Table) (looked : ℕ) (k : IsTableAfter i quanta over later t) (few : length quanta < MAX_QUANTA) (a : IsAfterAdmission i later t admitted looked) where
+module _ (i : Inputs) (quanta : List Quantum) (over : Bool) (later : List CheckedWish) (t admitted : StateTable) (looked : ℕ) (k : IsTableAfter i quanta over later t) (few : length quanta < MAX_QUANTA) (a : IsAfterAdmission i later t admitted looked) where
   pub can_sample_now : over ≡ false → CanSample admitted
   can_sample_now going =
       let most_quanta : length quanta ≤ MAX_QUANTA = omega (arith, few) in
       let samples = k.fewer going in
       let c = can_sample i quanta over later t k (omega arith) most_quanta in
       let same : length admitted.machine.state.core.harts ≡ length t.machine.state.core.harts = ap (λ (x : Core). length x.harts) (a.stays).core in
-      let sound = subst (λ m. AllByRecursion (IsSoundPair i m) admitted.pairs) (sym (ap (λ (x : Table). x.samples) (a.stays).same)) (more_sound i t.samples t.pairs admitted.pairs k.pairs a.pairs) in
-      let same_samples = ap (λ (x : Table). x.samples) (a.stays).same in
-      let same_time = ap (λ (x : Table). x.time) (a.stays).same in
+      let sound = subst (λ m. AllByRecursion (IsSoundPair i m) admitted.pairs) (sym (ap (λ (x : StateTable). x.samples) (a.stays).same)) (more_sound i t.samples t.pairs admitted.pairs k.pairs a.pairs) in
+      let same_samples = ap (λ (x : StateTable). x.samples) (a.stays).same in
+      let same_time = ap (λ (x : StateTable). x.time) (a.stays).same in
       let same_ticks = ap (λ (x : Core). ticks_in x.harts) (a.stays).core in
       let many = k.many in
       let more = a.few in
@@ -147,8 +147,8 @@ module _ (i : Inputs) (quanta : List Quantum) (over : Bool) (later : List Checke
       let ticks = c.ticks in
       let old_samples = c.samples in
       record {
-        places = ap (λ (x : Table). x.places) (a.stays).same ∙ (c.places ∙ sym same);
-        marks = ap (λ (x : Table). length x.marks) (a.stays).same ∙ (c.marks ∙ sym same);
+        places = ap (λ (x : StateTable). x.places) (a.stays).same ∙ (c.places ∙ sym same);
+        marks = ap (λ (x : StateTable). length x.marks) (a.stays).same ∙ (c.marks ∙ sym same);
         harts = fit_harts i admitted.samples (length admitted.machine.state.core.harts) admitted.pairs (sym (same ∙ k.harts)) sound;
         few = fit_few i admitted.samples admitted.pairs (omega arith) sound;
         number = omega arith;

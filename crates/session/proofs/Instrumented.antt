@@ -21,7 +21,7 @@ use Rattle.session_pairs.proofs.Live.{live_done, live_put}
 use Rattle.session.specs.declared.candidate.Candidate.{Candidate}
 use Rattle.session.specs.Candidates.{IsCandidate, IsPlanOrFault, IsShort, new_pair}
 use Rattle.session.specs.Outcomes.{IsAdmissionStep}
-use Rattle.session.specs.Tables.{IsMore, IsNew, IsStill, Table}
+use Rattle.session.specs.Tables.{IsMore, IsNew, IsStill, StateTable}
 use Rattle.session.proofs.Steps.{none_more, one_more}
 
 -- ---- its pair
@@ -53,16 +53,16 @@ live_more m new plan limit pairs live k a e n is =
 -- ---- a step
 
 -- what the step leaves of the table
-still_of : (old new : Table) → new ≡ record old { machine = new.machine; pairs = new.pairs; live = new.live; room = new.room } → new.machine.state.core ≡ old.machine.state.core → IsStill old new
+still_of : (old new : StateTable) → new ≡ record old { machine = new.machine; pairs = new.pairs; live = new.live; room = new.room } → new.machine.state.core ≡ old.machine.state.core → IsStill old new
 still_of old new e core =
-    let g : Table → Table = λ x. record old { machine = new.machine; refused = x.refused; pairs = new.pairs; live = new.live; search = x.search; room = new.room; worked = x.worked } in
-    record { same = e ∙ ap g (sym e); core = core; rules = ap (λ (x : Table). x.search.rules) e }
+    let g : StateTable → StateTable = λ x. record old { machine = new.machine; refused = x.refused; pairs = new.pairs; live = new.live; search = x.search; room = new.room; worked = x.worked } in
+    record { same = e ∙ ap g (sym e); core = core; rules = ap (λ (x : StateTable). x.search.rules) e }
 
 -- there is one pair more
-pub step_more : (i : Inputs) (plan : Plan) (k : SampledPair) (view old new : Table) → view ≡ old → IsNew i k → new.pairs ≡ view.pairs ++ k ∷ [] → view.room ≤ new.room + 1 → new.machine.ready ≡ without (need_of plan) view.machine.ready
+pub step_more : (i : Inputs) (plan : Plan) (k : SampledPair) (view old new : StateTable) → view ≡ old → IsNew i k → new.pairs ≡ view.pairs ++ k ∷ [] → view.room ≤ new.room + 1 → new.machine.ready ≡ without (need_of plan) view.machine.ready
     → AreLive new.machine.state.placer new.pairs new.live → new ≡ record view { machine = new.machine; pairs = new.pairs; live = new.live; room = new.room } → new.machine.state.core ≡ view.machine.state.core → IsAdmissionStep i plan old new
 step_more i plan k view old new is n pairs room ready live e core =
-    subst (λ (x : Table). IsAdmissionStep i plan x new) is
+    subst (λ (x : StateTable). IsAdmissionStep i plan x new) is
     (record {
       pairs = subst (IsMore i view.pairs) (sym pairs) (one_more i view.pairs k n);
       few = omega (arith, ap (λ (l : List SampledPair). length l) pairs, length-append view.pairs (k ∷ []));
@@ -73,10 +73,10 @@ step_more i plan k view old new is n pairs room ready live e core =
     })
 
 -- there are the same pairs
-pub step_same : (i : Inputs) (plan : Plan) (view old new : Table) → view ≡ old → (new.machine.ready ≡ view.machine.ready) ⊎ (new.machine.ready ≡ without (need_of plan) view.machine.ready) → AreLive new.machine.state.placer view.pairs view.live
+pub step_same : (i : Inputs) (plan : Plan) (view old new : StateTable) → view ≡ old → (new.machine.ready ≡ view.machine.ready) ⊎ (new.machine.ready ≡ without (need_of plan) view.machine.ready) → AreLive new.machine.state.placer view.pairs view.live
     → new ≡ record view { machine = new.machine } → new.machine.state.core ≡ view.machine.state.core → IsAdmissionStep i plan old new
 step_same i plan view old new is ready live e core =
-    subst (λ (x : Table). IsAdmissionStep i plan x new) is
+    subst (λ (x : StateTable). IsAdmissionStep i plan x new) is
     (subst (IsAdmissionStep i plan view) (sym e)
     (record {
       pairs = none_more i view.pairs;

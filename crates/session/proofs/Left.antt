@@ -30,7 +30,7 @@ use Rattle.session_spec.specs.Rosters.{AreBelow}
 use Rattle.session_spec.proofs.Acting.{admitted_placer}
 use Rattle.session_spec.proofs.AdmittingSteps.{KeepsNode, node_kept}
 use Rattle.session_spec.proofs.Likes.{below_more, below_push}
-use Rattle.session.specs.Contenders.{AreWithout, MustWait}
+use Rattle.session.specs.NodeCandidates.{AreWithout, MustWait}
 use Rattle.session.proofs.Forces.{lower_stay}
 use Rattle.session.proofs.Looks.{wish_shows}
 use Rattle.session.proofs.Takings.{IsAs, get_changed}

@@ -10,7 +10,7 @@ pub mod Forces
 pub mod Left
 pub mod Takings
 pub mod Counting
-pub mod Contending
+pub mod OfNodeCandidates
 pub mod Prepared
 pub mod Admitted
 pub mod Fits

@@ -16,7 +16,7 @@ use Rattle.session_spec.proofs.Wishing.{stands_now}
 use Rattle.session_spec.specs.Inputs.{Inputs}
 use Rattle.session_spec.specs.States.{SessionState}
 use Rattle.session_pairs.specs.declared.pair.SampledPair.{SampledPair}
-use Rattle.session.specs.Tables.{Table, kept_of}
+use Rattle.session.specs.Tables.{StateTable, kept_of}
 
 -- ---- whether a pair is shown
 
@@ -26,7 +26,7 @@ pub record IsFound (k : SessionState) (w : CheckedWish) (number : InstrumentNo) 
   pub is : shown_now k w ≡ Some s
   pub number_is : s.instrument ≡ number
 
-module _ (w : CheckedWish) (ws : List CheckedWish) (t : Table) where
+module _ (w : CheckedWish) (ws : List CheckedWish) (t : StateTable) where
   abbrev k : SessionState
   k = kept_of ws t
 

@@ -24,9 +24,9 @@ use Rattle.session_spec.proofs.Begins.{first_marks, first_quiet, opened_lasts, o
 use Rattle.session_pairs.specs.declared.pair.SampledPair.{SampledPair}
 use Rattle.session_pairs.specs.SampledPairs.{AreLive, HasHarts, pairs_armed}
 use Rattle.session.specs.Given.{AreGiven}
-use Rattle.session.specs.Contenders.{first_search}
+use Rattle.session.specs.NodeCandidates.{first_search}
 use Rattle.session.specs.Kept.{IsTableAfter, IsSoundPair, IsWished}
-use Rattle.session.specs.Tables.{AreFolded, IsNew, IsTableOf, Table, kept_of, lasts_in, shown_in, table_armed, table_opened}
+use Rattle.session.specs.Tables.{AreFolded, IsNew, IsTableOf, StateTable, kept_of, lasts_in, shown_in, table_armed, table_opened}
 use Rattle.session.proofs.Admitted.{lasts_more}
 use Rattle.session.proofs.SoundPairs.{all_armed, all_of, armed_many, more_sound}
 use Rattle.session.proofs.Halting.{fit_harts}
@@ -42,7 +42,7 @@ many_harts (suc more) h n image = ap suc (many_harts more (h + 1) n image)
 start_many : (i : Inputs) → length (start_core i.image i.settings.harts i.settings.budget).harts ≡ i.settings.harts
 start_many i = length-map (start i.image i.settings.harts).harts first_hart ∙ many_harts i.settings.harts 0 i.settings.harts i.image
 
-module _ (i : Inputs) (t : Table) (w : IsWished i t) where
+module _ (i : Inputs) (t : StateTable) (w : IsWished i t) where
   pub wished_harts : length t.machine.state.core.harts ≡ i.settings.harts
   wished_harts = ap (λ (c : Core). length c.harts) (w.still).core ∙ start_many i
 
@@ -50,7 +50,7 @@ module _ (i : Inputs) (t : Table) (w : IsWished i t) where
   wished_quiet = subst (λ (c : Core). IsQuiet c) (sym (w.still).core) (first_quiet i)
 
   same_places : t.places ≡ i.settings.harts
-  same_places = ap (λ (x : Table). x.places) (w.still).same
+  same_places = ap (λ (x : StateTable). x.places) (w.still).same
 
   pub wished_places : t.places ≡ length t.machine.state.core.harts
   wished_places = same_places ∙ sym wished_harts
@@ -65,7 +65,7 @@ module _ (i : Inputs) (t : Table) (w : IsWished i t) where
   later = later_wishes i
 
   -- the agenda is done
-  abbrev pub handed : Table
+  abbrev pub handed : StateTable
   handed = record t { machine = record t.machine { state = repeated (length t.machine.state.placer.book.agenda) Hands t.machine.state } }
 
   handed_kept : kept_of later handed ≡ with_agenda (picked i)
@@ -104,36 +104,36 @@ module _ (i : Inputs) (t : Table) (w : IsWished i t) where
   opened_state = record {
     kept = opened_is;
     hists = hists_are;
-    latest = ap (λ (x : Table). x.latest) (w.still).same;
-    marks = ap (λ (x : Table). x.marks) (w.still).same ∙ sym (first_marks i);
+    latest = ap (λ (x : StateTable). x.latest) (w.still).same;
+    marks = ap (λ (x : StateTable). x.marks) (w.still).same ∙ sym (first_marks i);
     sound = subst (IsSoundState i (first_state i)) (sym read_is) (opens i w.program w.good);
   }
 
-  pub opened_kept : AreGiven i → (desk : Table) → desk ≡ table_opened t → length desk.machine.state.core.harts ≡ length t.machine.state.core.harts → AreLive desk.machine.state.placer desk.pairs desk.live → IsTableAfter i [] false later desk
+  pub opened_kept : AreGiven i → (stored : StateTable) → stored ≡ table_opened t → length stored.machine.state.core.harts ≡ length t.machine.state.core.harts → AreLive stored.machine.state.placer stored.pairs stored.live → IsTableAfter i [] false later stored
   unfolding after_quanta first_search
-  opened_kept g desk e harts live =
-      let pairs : desk.pairs ≡ pairs_armed t.time handed.machine.state t.pairs = ap (λ (x : Table). x.pairs) e in
+  opened_kept g stored e harts live =
+      let pairs : stored.pairs ≡ pairs_armed t.time handed.machine.state t.pairs = ap (λ (x : StateTable). x.pairs) e in
       let many = ap (λ (l : List SampledPair). length l) pairs ∙ armed_many handed.machine.state t.time t.pairs in
       let few = w.few in
       let sum = all_wishes i in
-      let none : desk.samples ≡ 0 = ap (λ (x : Table). x.samples) e ∙ ap (λ (x : Table). x.samples) (w.still).same in
-      let early : desk.time ≡ 0 = ap (λ (x : Table). x.time) e ∙ ap (λ (x : Table). x.time) (w.still).same in
-      let last : desk.last ≡ 0 = ap (λ (x : Table). x.last) e ∙ ap (λ (x : Table). x.last) (w.still).same in
-      let due : desk.due ≡ i.settings.width = ap (λ (x : Table). x.due) e ∙ ap (λ (x : Table). x.due) (w.still).same in
-      let idle : desk.idle ≡ 0 = ap (λ (x : Table). x.idle) e ∙ ap (λ (x : Table). x.idle) (w.still).same in
+      let none : stored.samples ≡ 0 = ap (λ (x : StateTable). x.samples) e ∙ ap (λ (x : StateTable). x.samples) (w.still).same in
+      let early : stored.time ≡ 0 = ap (λ (x : StateTable). x.time) e ∙ ap (λ (x : StateTable). x.time) (w.still).same in
+      let last : stored.last ≡ 0 = ap (λ (x : StateTable). x.last) e ∙ ap (λ (x : StateTable). x.last) (w.still).same in
+      let due : stored.due ≡ i.settings.width = ap (λ (x : StateTable). x.due) e ∙ ap (λ (x : StateTable). x.due) (w.still).same in
+      let idle : stored.idle ≡ 0 = ap (λ (x : StateTable). x.idle) e ∙ ap (λ (x : StateTable). x.idle) (w.still).same in
       let wide = g.settings.width.0 in
       record {
         given = g;
         good = w.good;
         allowed = record { each = tt; few = omega arith };
-        state = subst (λ (x : Table). IsTableOf i (first_state i) later x) (sym e) opened_state;
+        state = subst (λ (x : StateTable). IsTableOf i (first_state i) later x) (sym e) opened_state;
         live = live;
-        pairs = subst (λ (x : Table). AllByRecursion (IsSoundPair i x.samples) x.pairs) (sym e) (all_armed i t.samples handed.machine.state t.time t.pairs wished_sound);
+        pairs = subst (λ (x : StateTable). AllByRecursion (IsSoundPair i x.samples) x.pairs) (sym e) (all_armed i t.samples handed.machine.state t.time t.pairs wished_sound);
         many = omega arith;
         wishes = later_given i g;
         harts = harts ∙ wished_harts;
-        places = ap (λ (x : Table). x.places) e ∙ same_places;
-        rules = ap (λ (x : Table). x.search.rules) e ∙ (w.still).rules;
+        places = ap (λ (x : StateTable). x.places) e ∙ same_places;
+        rules = ap (λ (x : StateTable). x.search.rules) e ∙ (w.still).rules;
         soon = λ _. omega arith;
         idle = λ _. omega arith;
         samples = omega arith;

@@ -9,7 +9,7 @@ use Rattle.session.specs.declared.candidate.Candidate.{Candidate}
 use Rattle.session.specs.Candidates.{AreOfWishes}
 use Rattle.session.specs.Tables.{AreReady}
 use Rattle.session.proofs.Considered.{plans_many}
-use Rattle.session.proofs.Contending.{needs_parted}
+use Rattle.session.proofs.OfNodeCandidates.{needs_parted}
 use Rattle.session.proofs.Readiness.{all_ready}
 
 take_short : (n : ℕ) (xs : List Plan) → length (take n xs) ≤ length xs

@@ -15,7 +15,7 @@ use Rattle.session_spec.specs.Work.{AreAllowed, AreAllowedFrom, IsAllowed, final
 use Rattle.session_spec.proofs.RulesStay.{step_rules}
 use Rattle.session_pairs.specs.SampledPairs.{AreLive, pair_sampled}
 use Rattle.session.specs.Kept.{IsTableAfter, IsSoundPair}
-use Rattle.session.specs.Tables.{IsAfterAdmission, IsTableOf, Table, table_begun, table_closed, table_ended, table_freed, table_last, table_quiet, table_sampled, table_tended, table_worked}
+use Rattle.session.specs.Tables.{IsAfterAdmission, IsTableOf, StateTable, table_begun, table_closed, table_ended, table_freed, table_last, table_quiet, table_sampled, table_tended, table_worked}
 use Rattle.session.proofs.SoundPairs.{all_armed, all_sampled, armed_many, more_sound}
 use Rattle.session.proofs.Tabled.{admitted_table, closed_table, tended_table}
 
@@ -53,14 +53,14 @@ drop_many (suc n) [] l = absurd (omega arith)
 drop_many (suc n) (v ∷ ws) l = let e = drop_many n ws (omega arith) in omega arith
 
 -- samples, pairs and the search after a quantum
-record Behind (i : Inputs) (old new : Table) : Type 0 where
+record Behind (i : Inputs) (old new : StateTable) : Type 0 where
   pairs : AllByRecursion (IsSoundPair i new.samples) new.pairs
   many : length new.pairs ≡ length old.pairs
   samples : new.samples ≤ old.samples + 1
   places : new.places ≡ old.places
   rules : new.search.rules ≡ old.search.rules
 
-behind : (i : Inputs) (h n : ℕ) (t : Table) → AllByRecursion (IsSoundPair i t.samples) t.pairs → Behind i t (table_tended i.settings.width h n t)
+behind : (i : Inputs) (h n : ℕ) (t : StateTable) → AllByRecursion (IsSoundPair i t.samples) t.pairs → Behind i t (table_tended i.settings.width h n t)
 behind i h n t a = by (nat_le (table_begun h n t).due (table_begun h n t).time)
   where
     by : (b : Bool) → Behind i t (cond b (table_worked i.settings.width (table_begun h n t)) (table_begun h n t))
@@ -78,20 +78,20 @@ behind i h n t a = by (nat_le (table_begun h n t).due (table_begun h n t).time)
         }
     by false = record { pairs = a; many = refl; samples = omega arith; places = refl; rules = refl }
 
-pub quantum_kept : (i : Inputs) (quanta : List Quantum) (later : List CheckedWish) (t admitted new : Table) (looked : ℕ) (q : Quantum) → IsTableAfter i quanta false later t → length quanta < MAX_QUANTA
+pub quantum_kept : (i : Inputs) (quanta : List Quantum) (later : List CheckedWish) (t admitted new : StateTable) (looked : ℕ) (q : Quantum) → IsTableAfter i quanta false later t → length quanta < MAX_QUANTA
     → IsAfterAdmission i later t admitted looked → new ≡ table_tended i.settings.width q.hart q.turns admitted → length new.machine.state.core.harts ≡ length admitted.machine.state.core.harts → new.time < admitted.time + 2 ^ 33
     → new.idle ≤ admitted.idle + q.turns → new.last < new.due → AreLive new.machine.state.placer new.pairs new.live → IsAllowed i (after_quanta i quanta).kept q → IsTableAfter i (quanta ++ q ∷ []) false (drop looked later) new
 quantum_kept i quanta later t admitted new looked q k few a is harts time idle soon live allowed =
-    let stays = ap (λ (x : Table). x.samples) (a.stays).same in
+    let stays = ap (λ (x : StateTable). x.samples) (a.stays).same in
     let pairs : AllByRecursion (IsSoundPair i admitted.samples) admitted.pairs = subst (λ m. AllByRecursion (IsSoundPair i m) admitted.pairs) (sym stays) (more_sound i t.samples t.pairs admitted.pairs k.pairs a.pairs) in
     let settings = k.given.settings in
     let low = settings.budget.1 in
     let some : 1 ≤ i.settings.bins = let bins = settings.bins.0 in omega arith in
-    let first = admitted_table i later (drop looked later) (after_quanta i quanta) t admitted k.state k.good a.kept a.pairs (ap (λ (x : Table). x.latest) (a.stays).same) (ap (λ (x : Table). x.marks) (a.stays).same) in
+    let first = admitted_table i later (drop looked later) (after_quanta i quanta) t admitted k.state k.good a.kept a.pairs (ap (λ (x : StateTable). x.latest) (a.stays).same) (ap (λ (x : StateTable). x.marks) (a.stays).same) in
     let after = tended_table i low some (drop looked later) (after_quanta i quanta) admitted first pairs q.hart q.turns in
     let b = behind i q.hart q.turns admitted pairs in
-    let is_many = ap (λ (x : Table). length x.pairs) is in
-    let is_samples = ap (λ (x : Table). x.samples) is in
+    let is_many = ap (λ (x : StateTable). length x.pairs) is in
+    let is_samples = ap (λ (x : StateTable). x.samples) is in
     let left = drop_many looked later a.looked in
     let count = length-append quanta (q ∷ []) in
     let one : length (q ∷ []) ≡ 1 = refl in
@@ -101,23 +101,23 @@ quantum_kept i quanta later t admitted new looked q k few a is harts time idle s
     let samples = k.fewer refl in
     let up = b.samples in
     let old_time = k.sooner refl in
-    let same_time = ap (λ (x : Table). x.time) (a.stays).same in
+    let same_time = ap (λ (x : StateTable). x.time) (a.stays).same in
     let old_idle = k.idle refl in
-    let same_idle = ap (λ (x : Table). x.idle) (a.stays).same in
+    let same_idle = ap (λ (x : StateTable). x.idle) (a.stays).same in
     let turns = allowed.few in
     record {
       given = k.given;
       good = k.good;
       allowed = one_allowed i quanta q k.allowed few allowed;
-      state = subst (λ (x : Table). IsTableOf i (after_quanta i (quanta ++ q ∷ [])) (drop looked later) x) (sym is)
+      state = subst (λ (x : StateTable). IsTableOf i (after_quanta i (quanta ++ q ∷ [])) (drop looked later) x) (sym is)
           (subst (λ (x : State). IsTableOf i x (drop looked later) (table_tended i.settings.width q.hart q.turns admitted)) (sym (one_work i quanta q)) after);
       live = live;
-      pairs = subst (λ (x : Table). AllByRecursion (IsSoundPair i x.samples) x.pairs) (sym is) b.pairs;
+      pairs = subst (λ (x : StateTable). AllByRecursion (IsSoundPair i x.samples) x.pairs) (sym is) b.pairs;
       many = omega arith;
       wishes = λ w h. k.wishes w (in_drop looked later w h);
       harts = harts ∙ (ap (λ (c : Core). length c.harts) (a.stays).core ∙ k.harts);
-      places = ap (λ (x : Table). x.places) is ∙ (b.places ∙ (ap (λ (x : Table). x.places) (a.stays).same ∙ k.places));
-      rules = ap (λ (x : Table). x.search.rules) is ∙ (b.rules ∙ ((a.stays).rules ∙ k.rules));
+      places = ap (λ (x : StateTable). x.places) is ∙ (b.places ∙ (ap (λ (x : StateTable). x.places) (a.stays).same ∙ k.places));
+      rules = ap (λ (x : StateTable). x.search.rules) is ∙ (b.rules ∙ ((a.stays).rules ∙ k.rules));
       soon = λ e. soon;
       idle = λ e. omega arith;
       samples = omega arith;
@@ -129,7 +129,7 @@ quantum_kept i quanta later t admitted new looked q k few a is harts time idle s
 
 -- ---- the end
 
-end_behind : (i : Inputs) (t : Table) → AllByRecursion (IsSoundPair i t.samples) t.pairs → Behind i t (table_closed t)
+end_behind : (i : Inputs) (t : StateTable) → AllByRecursion (IsSoundPair i t.samples) t.pairs → Behind i t (table_closed t)
 end_behind i t a = by (nat_lt (table_quiet t).last (table_quiet t).time)
   where
     by : (b : Bool) → Behind i t (table_ended (cond b (table_last (table_quiet t)) (table_quiet t)))
@@ -144,14 +144,14 @@ end_behind i t a = by (nat_lt (table_quiet t).last (table_quiet t).time)
         }
     by false = record { pairs = a; many = refl; samples = omega arith; places = refl; rules = refl }
 
-pub end_kept : (i : Inputs) (quanta : List Quantum) (later : List CheckedWish) (t new : Table) → IsTableAfter i quanta false later t → new ≡ table_closed t → IsQuiet new.machine.state.core
+pub end_kept : (i : Inputs) (quanta : List Quantum) (later : List CheckedWish) (t new : StateTable) → IsTableAfter i quanta false later t → new ≡ table_closed t → IsQuiet new.machine.state.core
     → length new.machine.state.core.harts ≡ length t.machine.state.core.harts → new.time < t.time + 2 ^ 32 → AreLive new.machine.state.placer new.pairs new.live → IsTableAfter i quanta true later new
 end_kept i quanta later t new k is quiet harts time live =
     let settings = k.given.settings in
     let after = closed_table i settings.budget.1 (let bins = settings.bins.0 in omega arith) later (after_quanta i quanta) t k.state k.pairs in
     let b = end_behind i t k.pairs in
-    let is_many = ap (λ (x : Table). length x.pairs) is in
-    let is_samples = ap (λ (x : Table). x.samples) is in
+    let is_many = ap (λ (x : StateTable). length x.pairs) is in
+    let is_samples = ap (λ (x : StateTable). x.samples) is in
     let many = k.many in
     let same_many = b.many in
     let fewer = k.fewer refl in
@@ -163,12 +163,12 @@ end_kept i quanta later t new k is quiet harts time live =
       allowed = k.allowed;
       state = subst (IsTableOf i (final_state i (after_quanta i quanta)) later) (sym is) after;
       live = live;
-      pairs = subst (λ (x : Table). AllByRecursion (IsSoundPair i x.samples) x.pairs) (sym is) b.pairs;
+      pairs = subst (λ (x : StateTable). AllByRecursion (IsSoundPair i x.samples) x.pairs) (sym is) b.pairs;
       many = omega arith;
       wishes = k.wishes;
       harts = harts ∙ k.harts;
-      places = ap (λ (x : Table). x.places) is ∙ (b.places ∙ k.places);
-      rules = ap (λ (x : Table). x.search.rules) is ∙ (b.rules ∙ k.rules);
+      places = ap (λ (x : StateTable). x.places) is ∙ (b.places ∙ k.places);
+      rules = ap (λ (x : StateTable). x.search.rules) is ∙ (b.rules ∙ k.rules);
       soon = λ e. absurd (true≢false e);
       idle = λ e. absurd (true≢false e);
       samples = omega arith;

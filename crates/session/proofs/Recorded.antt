@@ -16,7 +16,7 @@ use Rattle.session_spec.proofs.Reading.{samples_read}
 use Rattle.session.specs.Bins.{AreParts, AreWholeParts}
 use Rattle.session.specs.Kept.{IsTableAfter}
 use Rattle.session.specs.Sessions.{state_at}
-use Rattle.session.specs.Tables.{Table}
+use Rattle.session.specs.Tables.{StateTable}
 use Rattle.session.proofs.Ends.{at_the_end, before_it, of_both}
 use Rattle.session.proofs.PartBins.{parts_told}
 
@@ -24,7 +24,7 @@ module _ (i : Inputs) (quanta : List Quantum) (over : Bool) where
   pub all_fed : IsFeed (state_at i quanta over)
   all_fed = of_both i quanta over IsFeed (feed_told.closes i quanta) (feed_told.works i quanta)
 
-module _ (i : Inputs) (quanta : List Quantum) (over : Bool) (later : List CheckedWish) (t : Table) (k : IsTableAfter i quanta over later t) where
+module _ (i : Inputs) (quanta : List Quantum) (over : Bool) (later : List CheckedWish) (t : StateTable) (k : IsTableAfter i quanta over later t) where
   wide : 1 ≤ i.settings.width
   wide = k.given.settings.width.0
 

@@ -22,7 +22,7 @@ use Rattle.report.proofs.HartEnds.{same_end}
 use Rattle.report.specs.HartEnds.{hart_end}
 use Rattle.session.specs.Parts.{hart_part, parts_of, program_of_run, refused_part, search_part, shown_part, shown_parts}
 use Rattle.session.specs.Seen.{hart_seen, pair_parts, parts_by, table_parts}
-use Rattle.session.specs.Tables.{AreFolded, IsTableOf, Table, lasts_in, shown_in}
+use Rattle.session.specs.Tables.{AreFolded, IsTableOf, StateTable, lasts_in, shown_in}
 
 -- one more of a list was pushed
 pub one_more : {A : Type 0} (xs old new : List A) (n : ℕ) (x : A) → old ≡ take n xs → slice_get xs n ≡ Some x → new ≡ old ++ x ∷ [] → new ≡ take (n + 1) xs
@@ -85,7 +85,7 @@ module _ (i : Inputs) (n : ℕ) (ks : List SampledPair) (k : SampledPair) (l : n
 
 -- ---- the whole
 
-module _ (i : Inputs) (s : State) (later : List CheckedWish) (t : Table) (k : IsTableOf i s later t) where
+module _ (i : Inputs) (s : State) (later : List CheckedWish) (t : StateTable) (k : IsTableOf i s later t) where
   same : SameProgram t.machine.state.core (program_of_run i s.owns)
   same =
       let ran = is_run i s (lasts_in t.pairs) k.sound in

@@ -13,7 +13,7 @@ use Rattle.instrumented.specs.Instrumented.{Instrumented, after_act, after_turns
 use Rattle.instrumented.proofs.Acts.{done_is}
 use Rattle.session_pairs.specs.SampledPairs.{HasHarts}
 use Rattle.session_pairs.proofs.Live.{live_repeated, live_taken}
-use Rattle.session.specs.Tables.{CanSample, Table, table_handed, table_taken}
+use Rattle.session.specs.Tables.{CanSample, StateTable, table_handed, table_taken}
 
 core_taken : (es : List Event) (m : Instrumented) → (after_turns es m).core ≡ replay es m.core
 core_taken [] m = refl
@@ -23,10 +23,10 @@ core_taken (e ∷ es) m = core_taken es (after_act (Happens e) m) ∙ ap (λ (d 
 pub ticks_taken : (es : List Event) (m : Instrumented) → ticks_in (after_turns es m).core.harts ≡ ticks_in m.core.harts + length (owns es m.core)
 ticks_taken es m = ap (λ (c : Core). ticks_in c.harts) (core_taken es m) ∙ time_goes_on es m.core
 
-module _ (t new : Table) (c : CanSample t) where
+module _ (t new : StateTable) (c : CanSample t) where
   pub can_taken : (es : List Event) → new ≡ table_taken es t → length new.machine.state.core.harts ≡ length t.machine.state.core.harts → CanSample new
   can_taken es is many =
-      let same : length (table_taken es t).machine.state.core.harts ≡ length t.machine.state.core.harts = ap (λ (x : Table). length x.machine.state.core.harts) (sym is) ∙ many in
+      let same : length (table_taken es t).machine.state.core.harts ≡ length t.machine.state.core.harts = ap (λ (x : StateTable). length x.machine.state.core.harts) (sym is) ∙ many in
       let more = ticks_taken es t.machine.state in
       let ticks = c.ticks in
       subst CanSample (sym is) (record {
@@ -43,7 +43,7 @@ module _ (t new : Table) (c : CanSample t) where
 
   pub can_handed : new ≡ table_handed t → new.machine.state.core.harts ≡ t.machine.state.core.harts → CanSample new
   can_handed is harts =
-      let all = ap (λ (x : Table). x.machine.state.core.harts) (sym is) ∙ harts in
+      let all = ap (λ (x : StateTable). x.machine.state.core.harts) (sym is) ∙ harts in
       let same : length (table_handed t).machine.state.core.harts ≡ length t.machine.state.core.harts = ap length all in
       let sum : ticks_in (table_handed t).machine.state.core.harts ≡ ticks_in t.machine.state.core.harts = ap ticks_in all in
       let ticks = c.ticks in

@@ -16,14 +16,14 @@ use Rattle.session_spec.specs.Told.{AreEnded, AreJudged}
 use Rattle.session.specs.Given.{HasWindow}
 use Rattle.session.specs.Kept.{IsTableAfter}
 use Rattle.session.specs.Sessions.{state_at}
-use Rattle.session.specs.Tables.{Table}
+use Rattle.session.specs.Tables.{StateTable}
 use Rattle.session.proofs.Ends.{at_the_end, before_it, of_both}
 
 some_window : (i : Inputs) (o : Option SearchDecl) → HasWindow o → 1 ≤ (rules_by o i).decl.window
 some_window i None w = omega arith
 some_window i (Some decl) w = w
 
-module _ (i : Inputs) (quanta : List Quantum) (over : Bool) (later : List CheckedWish) (t : Table) (k : IsTableAfter i quanta over later t) where
+module _ (i : Inputs) (quanta : List Quantum) (over : Bool) (later : List CheckedWish) (t : StateTable) (k : IsTableAfter i quanta over later t) where
   window : 1 ≤ (rules_of i).decl.window
   window = some_window i i.checked.search k.given.window
 

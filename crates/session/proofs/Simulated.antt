@@ -25,7 +25,7 @@ use Rattle.w3_search.specs.Steps.{search_step}
 use Rattle.session_pairs.proofs.Dropped.{without_tests_are}
 use Rattle.session_pairs.specs.declared.pair.SampledPair.{SampledPair}
 use Rattle.session_pairs.specs.SampledPairs.{pair_armed, pair_latest, pair_reading, pair_sampled, pair_test, pair_test_by, pairs_armed, pairs_latest, pairs_tests, machine_of_armed}
-use Rattle.session.specs.Tables.{AreFolded, Table, hist_at, kept_of, lasts_in, shown_in, table_armed, table_ended, table_freed, table_handed, table_judged, table_next, table_quiet, table_sampled, table_turned}
+use Rattle.session.specs.Tables.{AreFolded, StateTable, hist_at, kept_of, lasts_in, shown_in, table_armed, table_ended, table_freed, table_handed, table_judged, table_next, table_quiet, table_sampled, table_turned}
 
 -- the harts of a pair are those of its focus
 pub record IsOf (i : Inputs) (k : SampledPair) : Type 0 where
@@ -187,7 +187,7 @@ module _ (i : Inputs) (time : ℕ) where
 
 -- ---- what a session goes on from
 
-module _ (i : Inputs) (ws : List CheckedWish) (t : Table) where
+module _ (i : Inputs) (ws : List CheckedWish) (t : StateTable) where
   pub turned_is : (h n : ℕ) → kept_of ws (table_handed (table_turned h n t)) ≡ with_entries (with_hart h n (kept_of ws t))
   unfolding with_hart with_entries
   turned_is h n = refl

@@ -6,7 +6,7 @@ use Rattle.session_spec.proofs.Lists.{all_append}
 use Rattle.session_pairs.specs.declared.pair.SampledPair.{SampledPair}
 use Rattle.session_pairs.specs.SampledPairs.{AreLive}
 use Rattle.session.specs.Outcomes.{IsAdmissionStep}
-use Rattle.session.specs.Tables.{IsMore, IsNew, IsStill, Table}
+use Rattle.session.specs.Tables.{IsMore, IsNew, IsStill, StateTable}
 
 -- ---- pairs
 
@@ -25,27 +25,27 @@ more_on i a b c m n = record {
 
 -- ---- what stays
 
-pub still_first : (t : Table) → IsStill t t
+pub still_first : (t : StateTable) → IsStill t t
 still_first t = record { same = refl; core = refl; rules = refl }
 
-pub still_on : (a b c : Table) → IsStill a b → IsStill b c → IsStill a c
+pub still_on : (a b c : StateTable) → IsStill a b → IsStill b c → IsStill a c
 still_on a b c s r =
-    let f : Table → Table = λ x. record x { machine = c.machine; refused = c.refused; pairs = c.pairs; live = c.live; search = c.search; room = c.room; worked = c.worked } in
+    let f : StateTable → StateTable = λ x. record x { machine = c.machine; refused = c.refused; pairs = c.pairs; live = c.live; search = c.search; room = c.room; worked = c.worked } in
     record { same = r.same ∙ ap f s.same; core = r.core ∙ s.core; rules = r.rules ∙ s.rules }
 
 -- ---- a number of steps
 
-pub record AreSteps (i : Inputs) (old t : Table) (n : ℕ) : Type 0 where
+pub record AreSteps (i : Inputs) (old t : StateTable) (n : ℕ) : Type 0 where
   pub pairs : IsMore i old.pairs t.pairs
   pub few : length t.pairs ≤ length old.pairs + n
   pub room : old.room ≤ t.room + n
   pub live : AreLive t.machine.state.placer t.pairs t.live
   pub still : IsStill old t
 
-pub no_steps : (i : Inputs) (t : Table) → AreLive t.machine.state.placer t.pairs t.live → AreSteps i t t 0
+pub no_steps : (i : Inputs) (t : StateTable) → AreLive t.machine.state.placer t.pairs t.live → AreSteps i t t 0
 no_steps i t live = record { pairs = none_more i t.pairs; few = omega arith; room = omega arith; live = live; still = still_first t }
 
-pub next_step : (i : Inputs) (plan : Plan) (old t new : Table) (n : ℕ) → AreSteps i old t n → IsAdmissionStep i plan t new → AreSteps i old new (n + 1)
+pub next_step : (i : Inputs) (plan : Plan) (old t new : StateTable) (n : ℕ) → AreSteps i old t n → IsAdmissionStep i plan t new → AreSteps i old new (n + 1)
 next_step i plan old t new n a s = record {
   pairs = more_on i old.pairs t.pairs new.pairs a.pairs s.pairs;
   few = omega (arith, a.few, s.few);

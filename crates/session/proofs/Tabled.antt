@@ -21,7 +21,7 @@ use Rattle.session_spec.proofs.Measured.{latest_now, marks_admitted, marks_armed
 use Rattle.session_spec.proofs.Sound.{admitted_sound, armed_sound, ended_sound, handed_sound, is_quiet, judged_sound, next_sound, quiet_sound, sampled_sound, turned_sound}
 use Rattle.session_pairs.specs.declared.pair.SampledPair.{SampledPair}
 use Rattle.session.specs.Kept.{IsSoundPair}
-use Rattle.session.specs.Tables.{AreFolded, IsMore, IsNew, IsTableOf, Table, kept_of, lasts_in, shown_in, table_armed, table_begun, table_closed, table_ended, table_freed, table_judged, table_last, table_next, table_quiet, table_sampled, table_tended, table_worked}
+use Rattle.session.specs.Tables.{AreFolded, IsMore, IsNew, IsTableOf, StateTable, kept_of, lasts_in, shown_in, table_armed, table_begun, table_closed, table_ended, table_freed, table_judged, table_last, table_next, table_quiet, table_sampled, table_tended, table_worked}
 use Rattle.session.proofs.Admitted.{lasts_more}
 use Rattle.session.proofs.Simulated.{IsOf, armed_is, ended_is, folded_armed, folded_sampled, freed_is, judged_is, lasts_all, lasts_sampled, latest_sampled, next_is, quiet_is, sampled_is, tests_sampled, turned_is}
 use Rattle.session.proofs.SoundPairs.{all_of, all_sampled}
@@ -54,7 +54,7 @@ folded_more i old new rs m f =
     subst (λ (l : List SampledPair). AreFolded i l (with_room (shown_in new) rs)) (sym m.is)
     (subst (λ (c : ℕ). AreFolded i (old ++ m.more) (rs ++ replicate c [])) (sym n) (folded_both i old m.more rs (replicate (length m.more) []) f (folded_new i m.more m.each)))
 
-module _ (i : Inputs) (later left : List CheckedWish) (s : State) (t new : Table) (k : IsTableOf i s later t) where
+module _ (i : Inputs) (later left : List CheckedWish) (s : State) (t new : StateTable) (k : IsTableOf i s later t) where
   pub admitted_table : ArePlansGood i → kept_of left new ≡ with_admission i (kept_of later t) → IsMore i t.pairs new.pairs → new.latest ≡ t.latest → new.marks ≡ t.marks → IsTableOf i (state_admitted i s) left new
   admitted_table good kept more latest marks =
       let is : kept_of left new ≡ with_admission i s.kept = kept ∙ ap (with_admission i) k.kept in
@@ -69,7 +69,7 @@ module _ (i : Inputs) (later left : List CheckedWish) (s : State) (t new : Table
 
 -- ---- the steps
 
-module _ (i : Inputs) (later : List CheckedWish) (s : State) (t : Table) (k : IsTableOf i s later t) where
+module _ (i : Inputs) (later : List CheckedWish) (s : State) (t : StateTable) (k : IsTableOf i s later t) where
   abbrev lasts : List ℕ
   lasts = lasts_in t.pairs
 
@@ -165,8 +165,8 @@ unfolding with_samples
 sampled_now i s = refl
 
 module _ (i : Inputs) (low : i.settings.budget ≤ MAX_BUDGET) (some : 1 ≤ i.settings.bins) (later : List CheckedWish) where
-  module _ (s : State) (t : Table) (k : IsTableOf i s later t) (quiet : IsQuiet s.kept.machine.core) (of : AllByRecursion (IsSoundPair i t.samples) t.pairs) where
-    abbrev sampled : Table
+  module _ (s : State) (t : StateTable) (k : IsTableOf i s later t) (quiet : IsQuiet s.kept.machine.core) (of : AllByRecursion (IsSoundPair i t.samples) t.pairs) where
+    abbrev sampled : StateTable
     sampled = table_sampled t
 
     tests : sampled.tests ≡ tests_now i s
@@ -187,8 +187,8 @@ module _ (i : Inputs) (low : i.settings.budget ≤ MAX_BUDGET) (some : 1 ≤ i.s
 
   -- ---- a quantum, and the end
 
-  module _ (s : State) (t : Table) (k : IsTableOf i s later t) (of : AllByRecursion (IsSoundPair i t.samples) t.pairs) where
-    abbrev settled : Table
+  module _ (s : State) (t : StateTable) (k : IsTableOf i s later t) (of : AllByRecursion (IsSoundPair i t.samples) t.pairs) where
+    abbrev settled : StateTable
     settled = table_quiet t
 
     settles : IsTableOf i (state_quiet s) later settled
@@ -221,6 +221,6 @@ module _ (i : Inputs) (low : i.settings.budget ≤ MAX_BUDGET) (some : 1 ≤ i.s
         ended_table i later (cond (nat_lt (state_quiet s).kept.last (state_quiet s).kept.time) (state_last i (state_quiet s)) (state_quiet s)) (cond (nat_lt settled.last settled.time) (table_last settled) settled) if_last
 
   -- A quantum after its admission.
-  pub tended_table : (s : State) (t : Table) → IsTableOf i (state_admitted i s) later t → AllByRecursion (IsSoundPair i t.samples) t.pairs → (h n : ℕ) → IsTableOf i (after_quantum i h n s) later (table_tended i.settings.width h n t)
+  pub tended_table : (s : State) (t : StateTable) → IsTableOf i (state_admitted i s) later t → AllByRecursion (IsSoundPair i t.samples) t.pairs → (h n : ℕ) → IsTableOf i (after_quantum i h n s) later (table_tended i.settings.width h n t)
   unfolding after_quantum
   tended_table s t k of h n = worked_table (state_handed (state_turned h n (state_admitted i s))) (table_begun h n t) (turned_table i later (state_admitted i s) t k h n) of

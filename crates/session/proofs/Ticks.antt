@@ -20,7 +20,7 @@ use Rattle.session_spec.proofs.Runs.{is_run}
 use Rattle.session.specs.Kept.{IsTableAfter}
 use Rattle.session.specs.Seen.{hart_seen, table_parts}
 use Rattle.session.specs.Sessions.{state_at}
-use Rattle.session.specs.Tables.{Table, lasts_in}
+use Rattle.session.specs.Tables.{StateTable, lasts_in}
 
 budget_stays : (es : List Event) (c : Core) → (replay es c).budget ≡ c.budget
 budget_stays [] c = refl
@@ -35,7 +35,7 @@ sum_from budget limit c (x ∷ xs) a low =
     let more : suc (length xs) * limit ≡ limit + length xs * limit = omega arith in
     omega arith
 
-module _ (i : Inputs) (quanta : List Quantum) (over : Bool) (later : List CheckedWish) (t : Table) (k : IsTableAfter i quanta over later t) where
+module _ (i : Inputs) (quanta : List Quantum) (over : Bool) (later : List CheckedWish) (t : StateTable) (k : IsTableAfter i quanta over later t) where
   low : (h : ℕ) (x : Hart) → slice_get t.machine.state.core.harts h ≡ Some x → x.ticks ≤ MAX_BUDGET
   low h x e =
       let first = start_core i.image i.settings.harts i.settings.budget in

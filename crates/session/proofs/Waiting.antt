@@ -24,9 +24,9 @@ use Rattle.session.specs.declared.candidate.Candidate.{Candidate}
 use Rattle.session.specs.declared.failure.Failure.{Failure}
 use Rattle.session.specs.declared.failure.Failure.TheVariants.{NoPlan, Refused}
 use Rattle.session.specs.Candidates.{IsPlanOrFault, newly_shown}
-use Rattle.session.specs.Contenders.{IsContender}
+use Rattle.session.specs.NodeCandidates.{IsNodeCandidate}
 use Rattle.session.specs.Outcomes.{IsFailure, IsInstrumented, bar_cause_of}
-use Rattle.session.specs.Tables.{Table, kept_of}
+use Rattle.session.specs.Tables.{StateTable, kept_of}
 
 module _ (i : Inputs) (n : ℕ) (k : SessionState) (node : Node) (stands : slice_get k.search.nodes n ≡ Some node) where
   -- one that doesn't wait isn't taken
@@ -56,13 +56,13 @@ module _ (i : Inputs) (n : ℕ) (k : SessionState) (node : Node) (stands : slice
       waiting f ∙ (ap (λ r. with_plan_of r i n node k) e
       ∙ ap (λ b. cond b k (with_test (admission k.machine.placer plan (Some (rules_of i).decl.cost)) i n node plan k)) w)
 
--- ---- a contender
+-- ---- a node_candidate
 
 -- nothing is kept of an admission that failed
-pub kept_same : (ws : List CheckedWish) (old new : Table) → new ≡ record old { machine = new.machine; pairs = new.pairs; live = new.live; room = new.room } → new.machine.state ≡ old.machine.state → new.pairs ≡ old.pairs → kept_of ws new ≡ kept_of ws old
+pub kept_same : (ws : List CheckedWish) (old new : StateTable) → new ≡ record old { machine = new.machine; pairs = new.pairs; live = new.live; room = new.room } → new.machine.state ≡ old.machine.state → new.pairs ≡ old.pairs → kept_of ws new ≡ kept_of ws old
 kept_same ws old new e machine pairs = ap (kept_of ws) e ∙ ap₂ (λ (m : Instrumented) (ks : List SampledPair). record (kept_of ws old) { machine = m; shown = shown_in ks }) machine pairs
 
-module _ (i : Inputs) (old : Table) (plan : Plan) (c : Candidate) (x : IsContender i old.search.nodes plan c) where
+module _ (i : Inputs) (old : StateTable) (plan : Plan) (c : Candidate) (x : IsNodeCandidate i old.search.nodes plan c) where
   pub planned_by : (o : Option PlanFault) → c.fault ≡ o → IsPlanOrFault i (metric_of i x.node) (x.node).focus o plan
   planned_by o e =
       subst (λ f. IsPlanOrFault i (metric_of i x.node) f o plan) (x.pair).focus_is
@@ -81,7 +81,7 @@ module _ (i : Inputs) (old : Table) (plan : Plan) (c : Candidate) (x : IsContend
         admits i x.number (kept_of ws old) x.node x.stands plan f (planned_by None e.0).0 (w e.0) ∙ ap (λ r. with_test r i x.number x.node plan (kept_of ws old)) e.1
 
     -- it gets one
-    pub node_tested : (new : Table) (number : InstrumentNo) → IsInstrumented i plan c (Some (rules_of i).decl.cost) old new number → new ≡ record old { machine = new.machine; pairs = new.pairs; live = new.live; room = new.room }
+    pub node_tested : (new : StateTable) (number : InstrumentNo) → IsInstrumented i plan c (Some (rules_of i).decl.cost) old new number → new ≡ record old { machine = new.machine; pairs = new.pairs; live = new.live; room = new.room }
         → (search : SearchData) → search ≡ with_state x.number Active old.search → kept_of ws (record new { search = search }) ≡ with_node i x.number (kept_of ws old)
     node_tested new number s e search is =
         let k = kept_of ws old in
@@ -91,7 +91,7 @@ module _ (i : Inputs) (old : Table) (plan : Plan) (c : Candidate) (x : IsContend
         ∙ (ap₂ (λ (y : InstrumentNo) (m : ℕ). let z : MetricFocusPair = record { instrument = y; node = Some x.number; metric = m; focus = c.focus; armed = None; from = 0 } in z) named (x.pair).metric_is
         ∙ ap (λ g. let y : MetricFocusPair = record { instrument = record { n = k.machine.placer.count }; node = Some x.number; metric = metric_of i x.node; focus = g; armed = None; from = 0 } in y) (x.pair).focus_is) in
         let shown : shown_in new.pairs ≡ k.shown ++ tests_next i x.number x.node k ∷ [] = ap shown_in s.pairs ∙ (map-append (λ (y : SampledPair). y.shown) old.pairs _ ∙ ap (λ (y : MetricFocusPair). k.shown ++ y ∷ []) next) in
-        ap (λ (t : Table). kept_of ws (record t { search = search })) e
+        ap (λ (t : StateTable). kept_of ws (record t { search = search })) e
         ∙ (ap (λ v. record k { machine = new.machine.state; shown = shown_in new.pairs; search = v }) is
         ∙ (ap₂ (λ (m : Instrumented) (ss : List MetricFocusPair). record k { machine = m; shown = ss; search = with_state x.number Active old.search }) s.machine shown
         ∙ sym (admits i x.number k x.node x.stands plan f (planned_by None s.planned).0 (w s.planned) ∙ ap (λ r. with_test r i x.number x.node plan k) s.placed)))

@@ -16,10 +16,10 @@ use Rattle.session_spec.specs.Searches.{rules_of}
 use Rattle.session_spec.specs.Tests.{taken_at_once, with_tests}
 use Rattle.session_pairs.specs.declared.pair.SampledPair.{SampledPair}
 use Rattle.session_pairs.specs.SampledPairs.{AreLive}
-use Rattle.session.specs.Contenders.{HasCost}
+use Rattle.session.specs.NodeCandidates.{HasCost}
 use Rattle.session.specs.Given.{AreGiven, IsWishOf}
 use Rattle.session.specs.Sessions.{state_at}
-use Rattle.session.specs.Tables.{IsMore, IsStill, IsTableOf, Table, first_table, kept_of}
+use Rattle.session.specs.Tables.{IsMore, IsStill, IsTableOf, StateTable, first_table, kept_of}
 
 -- the harts of a pair are those of its focus and harts of the machine; it has at most as many samples as were taken
 pub record IsSoundPair (i : Inputs) (samples : ℕ) (k : SampledPair) : Type 0 where
@@ -29,7 +29,7 @@ pub record IsSoundPair (i : Inputs) (samples : ℕ) (k : SampledPair) : Type 0 w
   pub cost : HasCost i k
 
 -- after these quanta, and after the end where it was closed
-pub record IsTableAfter (i : Inputs) (quanta : List Quantum) (over : Bool) (later : List CheckedWish) (t : Table) : Type 0 where
+pub record IsTableAfter (i : Inputs) (quanta : List Quantum) (over : Bool) (later : List CheckedWish) (t : StateTable) : Type 0 where
   pub given : AreGiven i
   pub good : ArePlansGood i
   pub allowed : AreAllowed i quanta
@@ -49,8 +49,8 @@ pub record IsTableAfter (i : Inputs) (quanta : List Quantum) (over : Bool) (late
   pub sooner : over ≡ false → t.time ≤ 2 ^ 33 * length quanta
   pub quiet : over ≡ true → IsQuiet t.machine.state.core
 
--- the desk after the admissions of the opening
-pub record IsWished (i : Inputs) (t : Table) : Type 0 where
+-- the stored after the admissions of the opening
+pub record IsWished (i : Inputs) (t : StateTable) : Type 0 where
   pub program : IsProgram i.image
   pub good : ArePlansGood i
   pub kept : kept_of (later_wishes i) t ≡ with_tests i (wished i)
@@ -60,5 +60,5 @@ pub record IsWished (i : Inputs) (t : Table) : Type 0 where
   pub still : IsStill (first_table i) t
 
 -- the same, as a whole
-unfoldable pub IsAdmitted : Inputs → Table → Type 0
+unfoldable pub IsAdmitted : Inputs → StateTable → Type 0
 IsAdmitted i t = IsWished i t

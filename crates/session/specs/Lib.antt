@@ -1,7 +1,7 @@
 pub mod Tables
 pub mod Given
 pub mod Candidates
-pub mod Contenders
+pub mod NodeCandidates
 pub mod KnownCosts
 pub mod Outcomes
 pub mod Sessions

@@ -13,7 +13,7 @@ use Rattle.session_spec.specs.Inputs.{Inputs, cause_of_plan, cause_of_refusal}
 use Rattle.session_spec.specs.Searches.{bar_of_plan, bar_of_refusal}
 use Rattle.session_pairs.specs.SampledPairs.{AreLive}
 use Rattle.session.specs.Candidates.{new_pair}
-use Rattle.session.specs.Tables.{IsMore, IsStill, Table}
+use Rattle.session.specs.Tables.{IsMore, IsStill, StateTable}
 use Rattle.session.specs.declared.candidate.Candidate.{Candidate}
 use Rattle.session.specs.declared.failure.Failure.{Failure}
 use Rattle.session.specs.declared.failure.Failure.TheVariants.{NoPlan, Refused}
@@ -32,7 +32,7 @@ bar_cause_of (Refused refused) = bar_of_refusal refused
 
 -- it has an instrument from now on
 pub record IsInstrumented
-    (i : Inputs) (plan : Plan) (c : Candidate) (limit : Option ℕ) (old new : Table) (number : InstrumentNo) : Type 0 where
+    (i : Inputs) (plan : Plan) (c : Candidate) (limit : Option ℕ) (old new : StateTable) (number : InstrumentNo) : Type 0 where
   pub planned : c.fault ≡ None
   pub placed : admission old.machine.state.placer plan limit ≡ Ok new.machine.state.placer
   pub number_is : number.n ≡ old.machine.state.placer.count
@@ -45,7 +45,7 @@ IsFailure p plan fault limit (NoPlan f) = fault ≡ Some f
 IsFailure p plan fault limit (Refused refused) = (fault ≡ None) × (admission p plan limit ≡ Err refused)
 
 -- it has none, and the room is still there
-pub record IsFailed (plan : Plan) (fault : Option PlanFault) (limit : Option ℕ) (old new : Table) (failure : Failure) : Type 0 where
+pub record IsFailed (plan : Plan) (fault : Option PlanFault) (limit : Option ℕ) (old new : StateTable) (failure : Failure) : Type 0 where
   pub why : IsFailure old.machine.state.placer plan fault limit failure
   pub machine : new.machine.state ≡ old.machine.state
   pub pairs : new.pairs ≡ old.pairs
@@ -53,7 +53,7 @@ pub record IsFailed (plan : Plan) (fault : Option PlanFault) (limit : Option ℕ
 
 -- What one step of an admission changes, for which this plan is ready: there is at most one more pair, and no other pair is
 -- different.
-pub record IsAdmissionStep (i : Inputs) (plan : Plan) (old new : Table) : Type 0 where
+pub record IsAdmissionStep (i : Inputs) (plan : Plan) (old new : StateTable) : Type 0 where
   pub pairs : IsMore i old.pairs new.pairs
   pub few : length new.pairs ≤ length old.pairs + 1
   pub room : old.room ≤ new.room + 1

@@ -12,7 +12,7 @@ use Rattle.session_spec.specs.Inputs.{Inputs}
 use Rattle.session_pairs.specs.declared.pair.SampledPair.{SampledPair}
 use Rattle.report.specs.HartEnds.{hart_end}
 use Rattle.session.specs.Parts.{refused_part, search_part, shown_part}
-use Rattle.session.specs.Tables.{Table}
+use Rattle.session.specs.Tables.{StateTable}
 
 -- a hart of the patched machine
 abbrev pub hart_seen : ℕ → Core → Hart → HartPart
@@ -27,7 +27,7 @@ abbrev pub pair_parts : Inputs → List SampledPair → List ShownPart
 pair_parts i [] = []
 pair_parts i (k ∷ ks) = parts_by i k.shown k.hist ++ pair_parts i ks
 
-abbrev pub table_parts : Inputs → Table → ReportParts
+abbrev pub table_parts : Inputs → StateTable → ReportParts
 table_parts i t = record {
   harts = map (hart_seen i.settings.budget t.machine.state.core) t.machine.state.core.harts;
   samples = t.samples;

@@ -26,14 +26,14 @@ use Rattle.w3_search.specs.Steps.{SearchData, search_step, with_end}
 use Rattle.fold_hist.specs.Bins.{Histogram, hist_of}
 use Rattle.fold_hist.specs.declared.bin.Bin.{Bin}
 use Rattle.pn_types.specs.declared.limits.TheConstants.{MAX_HARTS}
-use Rattle.session.specs.Contenders.{cost_of, first_search}
+use Rattle.session.specs.NodeCandidates.{cost_of, first_search}
 use Rattle.session_pairs.specs.declared.pair.SampledPair.{SampledPair}
 use Rattle.session_pairs.specs.SampledPairs.{AreLive, HasFew, HasHarts, dropped_tests, pair_sampled, pairs_armed, pairs_latest, pairs_tests, live_of, machine_of_armed}
 
 -- the machine, the wishes that were refused, the pairs that are or were shown, the places of those that may still be sampled, the
 -- search, the latest samples of what was wished and of nodes, how many ticks each hart had then, for how many harts there is room to
 -- read them, and for how many more pairs
-pub record Table : Type 0 where
+pub record StateTable : Type 0 where
   pub machine : InstrumentedData
   pub refused : List RefusedWish
   pub pairs : List SampledPair
@@ -62,7 +62,7 @@ abbrev pub lasts_in : List SampledPair → List ℕ
 lasts_in pairs = map (λ (k : SampledPair). k.last) pairs
 
 -- with the wishes that are to come
-abbrev pub kept_of : List CheckedWish → Table → SessionState
+abbrev pub kept_of : List CheckedWish → StateTable → SessionState
 kept_of ws t = record {
   machine = t.machine.state;
   wishes = ws;
@@ -91,7 +91,7 @@ AreFolded i (k ∷ ks) (r ∷ rs) = (k.hist ≡ hist_at i k.shown r) × AreFolde
 
 -- A table is a state's: what a session goes on from is the same, each sample stands in its histogram, and the latest samples and how
 -- many ticks each hart had then are the state's.
-pub record IsTableOf (i : Inputs) (s : State) (later : List CheckedWish) (t : Table) : Type 0 where
+pub record IsTableOf (i : Inputs) (s : State) (later : List CheckedWish) (t : StateTable) : Type 0 where
   pub kept : kept_of later t ≡ s.kept
   pub hists : AreFolded i t.pairs s.recorded
   pub latest : t.latest ≡ s.latest
@@ -99,7 +99,7 @@ pub record IsTableOf (i : Inputs) (s : State) (later : List CheckedWish) (t : Ta
   pub sound : IsSoundState i s (lasts_in t.pairs)
 
 -- where nothing was done yet, and work is due at this time
-abbrev pub table_at_first : InstrumentedData → SearchData → List ℕ → ℕ → ℕ → Table
+abbrev pub table_at_first : InstrumentedData → SearchData → List ℕ → ℕ → ℕ → StateTable
 table_at_first machine search marks places due = record {
   machine = machine;
   refused = [];
@@ -121,7 +121,7 @@ table_at_first machine search marks places due = record {
 }
 
 -- before any wish is looked at
-abbrev pub first_table : Inputs → Table
+abbrev pub first_table : Inputs → StateTable
 first_table i =
     table_at_first (record { state = first_instrumented i.image i.settings.harts i.settings.budget i.settings.instruments; ready = [] })
     (first_search i)
@@ -130,7 +130,7 @@ first_table i =
 -- ---- steps
 
 -- what is asked before a sample: fewer than 2^63 were taken, and the time counts the ticks
-pub record CanSample (t : Table) : Type 0 where
+pub record CanSample (t : StateTable) : Type 0 where
   pub places : t.places ≡ length t.machine.state.core.harts
   pub marks : length t.marks ≡ length t.machine.state.core.harts
   pub harts : AllByRecursion (HasHarts (length t.machine.state.core.harts)) t.pairs
@@ -142,24 +142,24 @@ pub record CanSample (t : Table) : Type 0 where
   pub live : AreLive t.machine.state.placer t.pairs t.live
 
 -- turns
-abbrev pub table_taken : List Event → Table → Table
+abbrev pub table_taken : List Event → StateTable → StateTable
 table_taken turns t = record t {
   machine = record t.machine { state = after_turns turns t.machine.state };
   time = t.time + length (owns turns t.machine.state.core);
   idle = t.idle + (length turns - length (owns turns t.machine.state.core));
 }
 
-abbrev pub table_turned : ℕ → ℕ → Table → Table
+abbrev pub table_turned : ℕ → ℕ → StateTable → StateTable
 table_turned h n t = table_taken (quantum_turns n h t.machine.state.core) t
 
 -- eight entries of the agenda
-abbrev pub table_handed : Table → Table
+abbrev pub table_handed : StateTable → StateTable
 table_handed t = record t { machine = record t.machine { state = repeated 8 Hands t.machine.state } }
 
-abbrev pub table_quiet : Table → Table
+abbrev pub table_quiet : StateTable → StateTable
 table_quiet t = table_taken (settling t.machine.state.core) t
 
-abbrev pub table_sampled : Table → Table
+abbrev pub table_sampled : StateTable → StateTable
 table_sampled t = record t {
   pairs = map (pair_sampled t.machine.state t.time) t.pairs;
   latest = pairs_latest t.machine.state t.time 0 t.pairs;
@@ -171,57 +171,57 @@ table_sampled t = record t {
   observed = observed_cost t.idle (t.time - t.last);
 }
 
-abbrev pub table_swept : Table → Table
+abbrev pub table_swept : StateTable → StateTable
 table_swept t =
     record t { machine = record t.machine { state = repeated (length t.machine.state.placer.book.agenda) Sweeps t.machine.state } }
 
 -- and tests that are gone are forgotten
-abbrev pub table_freed : Table → Table
+abbrev pub table_freed : StateTable → StateTable
 table_freed t = record (table_swept t) { live = live_of (table_swept t).machine.state.placer t.pairs t.live }
 
-abbrev pub table_armed : Table → Table
+abbrev pub table_armed : StateTable → StateTable
 table_armed t = record t {
   machine = record t.machine { state = machine_of_armed t.machine.state t.pairs };
   pairs = pairs_armed t.time t.machine.state t.pairs;
 }
 
 -- the search's step, and what it drops
-abbrev pub table_stepped : SearchData → Table → Table
+abbrev pub table_stepped : SearchData → StateTable → StateTable
 table_stepped search t = record t {
   machine = record t.machine { state = dropped_tests search.drops (map (λ (k : SampledPair). k.shown) t.pairs) t.machine.state };
   search = search;
 }
 
-abbrev pub table_judged : Table → Table
+abbrev pub table_judged : StateTable → StateTable
 table_judged t = table_stepped (search_step t.time t.tests t.search) t
 
-abbrev pub table_next : ℕ → Table → Table
+abbrev pub table_next : ℕ → StateTable → StateTable
 table_next width t = record t { due = next_due width t.time; worked = true }
 
 -- the due work: settle, sample, free, arm, judge
-abbrev pub table_worked : ℕ → Table → Table
+abbrev pub table_worked : ℕ → StateTable → StateTable
 table_worked width t = table_next width (table_judged (table_armed (table_freed (table_sampled (table_quiet t)))))
 
 -- the end: settle, and sample and judge once more where time passed since the last sample; then the search ends
-abbrev pub table_last : Table → Table
+abbrev pub table_last : StateTable → StateTable
 table_last t = table_judged (table_sampled t)
 
-abbrev pub table_ended : Table → Table
+abbrev pub table_ended : StateTable → StateTable
 table_ended t = record t { search = with_end t.search }
 
-abbrev pub table_closed : Table → Table
+abbrev pub table_closed : StateTable → StateTable
 table_closed t = table_ended (if nat_lt (table_quiet t).last (table_quiet t).time then table_last (table_quiet t) else table_quiet t)
 
 -- the whole agenda, and then each instrument is armed
-abbrev pub table_opened : Table → Table
+abbrev pub table_opened : StateTable → StateTable
 table_opened t = table_armed
     (record t { machine = record t.machine { state = repeated (length t.machine.state.placer.book.agenda) Hands t.machine.state } })
 
-abbrev pub table_begun : ℕ → ℕ → Table → Table
+abbrev pub table_begun : ℕ → ℕ → StateTable → StateTable
 table_begun h n t = table_handed (table_turned h n t)
 
 -- a quantum after its admission
-abbrev pub table_tended : ℕ → ℕ → ℕ → Table → Table
+abbrev pub table_tended : ℕ → ℕ → ℕ → StateTable → StateTable
 table_tended width h n t =
     if nat_le (table_begun h n t).due (table_begun h n t).time then table_worked width (table_begun h n t) else table_begun h n t
 
@@ -255,7 +255,7 @@ IsCount time (w ∷ ws) zero = nat_le w.at time ≡ false
 IsCount time (w ∷ ws) (suc n) = (nat_le w.at time ≡ true) × IsCount time ws n
 
 -- what no admission changes
-pub record IsStill (old new : Table) : Type 0 where
+pub record IsStill (old new : StateTable) : Type 0 where
   pub same : new ≡ record old {
     machine = new.machine;
     refused = new.refused;
@@ -269,7 +269,7 @@ pub record IsStill (old new : Table) : Type 0 where
   pub rules : new.search.rules ≡ old.search.rules
 
 -- after an admission in which the first `n` wishes were looked at
-pub record IsAfterAdmission (i : Inputs) (later : List CheckedWish) (old new : Table) (n : ℕ) : Type 0 where
+pub record IsAfterAdmission (i : Inputs) (later : List CheckedWish) (old new : StateTable) (n : ℕ) : Type 0 where
   pub looked : n ≤ length later
   pub kept : kept_of (drop n later) new ≡ with_admission i (kept_of later old)
   pub pairs : IsMore i old.pairs new.pairs
@@ -278,5 +278,5 @@ pub record IsAfterAdmission (i : Inputs) (later : List CheckedWish) (old new : T
   pub stays : IsStill old new
 
 -- nothing but the memory that was taken has changed
-abbrev pub IsSame : Table → Table → Type 0
+abbrev pub IsSame : StateTable → StateTable → Type 0
 IsSame old new = new ≡ record old { machine = record old.machine { ready = new.machine.ready }; room = new.room }

@@ -10,14 +10,14 @@ ghost use Rattle.session_spec.specs.Opening.{with_all};
 ghost use Rattle.session_spec.specs.Searches.{rules_of};
 ghost use Rattle.session_spec.specs.Tests.{taken_at_once, with_tests};
 ghost use Rattle.session_pairs.specs.SampledPairs.{AreLive};
-ghost use Rattle.session.specs.Contenders.{HasCost, force_in};
+ghost use Rattle.session.specs.NodeCandidates.{HasCost, force_in};
 ghost use Rattle.session.specs.KnownCosts.{AreKnown};
 ghost use Rattle.session.specs.Tables.{IsAfterAdmission, IsMore, IsSame, IsStill, kept_of};
 
-use crate::desk::Desk;
 use crate::inputs::Inputs;
 use crate::known_costs::KnownCosts;
 use crate::preparing::{Prepared, count_due, prepare_wishes};
+use crate::stored::StoredState;
 use mdl_check::CheckedWish;
 use pn_types::NoMemory;
 use std::alloc::Global;
@@ -29,7 +29,7 @@ fn show_all(wishes: &[CheckedWish]) -> bool
     wishes.iter().all(|wish| wish.show)
 }
 
-impl Desk {
+impl StoredState {
     /// Returns a lower bound of the costs in force during an admission in which these wishes are looked at: the costs that are in
     /// force now, and 0 where a pair is dropped.
     fn least_force(&self, wishes: &[CheckedWish]) -> u64
@@ -80,11 +80,11 @@ impl Desk {
             candidates,
         } = prepare_wishes(alloc, inputs, wishes)?;
         let force = self.least_force(wishes);
-        let contenders = self.prepare_nodes(alloc, inputs, force, costs, &mut plans)?;
+        let node_candidates = self.prepare_nodes(alloc, inputs, force, costs, &mut plans)?;
         self.reserve(alloc, &plans)?;
         let (of_wishes, of_nodes) = plans.split_at(wishes.len());
         self.consider_all(alloc, inputs, wishes, of_wishes, candidates);
-        self.take_nodes(alloc, inputs, of_nodes, contenders);
+        self.take_nodes(alloc, inputs, of_nodes, node_candidates);
         Ok(())
     }
 }
@@ -100,27 +100,27 @@ fn admit(
     alloc: Global,
     inputs: &Inputs,
     wishes: &[CheckedWish],
-    desk: &mut Desk,
+    stored: &mut StoredState,
     costs: &mut KnownCosts,
 ) -> Result<usize, NoMemory>
     requires given { AreGiven inputs.now }
     requires wishes { (w : CheckedWish) → In w wishes.now → IsWishOf inputs.now w }
-    requires program { desk.old.machine.state.core.program ≡ program_of inputs.now.image }
-    requires rules { desk.old.search.rules ≡ rules_of inputs.now }
-    requires few { length desk.old.pairs + length wishes.now + taken_at_once < 2 ^ 31 }
-    requires costs { AllByRecursion (HasCost inputs.now) desk.old.pairs }
-    requires live { AreLive desk.old.machine.state.placer desk.old.pairs desk.old.live }
+    requires program { stored.old.machine.state.core.program ≡ program_of inputs.now.image }
+    requires rules { stored.old.search.rules ≡ rules_of inputs.now }
+    requires few { length stored.old.pairs + length wishes.now + taken_at_once < 2 ^ 31 }
+    requires costs { AllByRecursion (HasCost inputs.now) stored.old.pairs }
+    requires live { AreLive stored.old.machine.state.placer stored.old.pairs stored.old.live }
     requires known { AreKnown inputs.now costs.old }
-    ensures ok { IfOk result (IsAfterAdmission inputs.now wishes.now desk.old desk.new) }
-    ensures err { OnErr result (IsSame desk.old desk.new) }
+    ensures ok { IfOk result (IsAfterAdmission inputs.now wishes.now stored.old stored.new) }
+    ensures err { OnErr result (IsSame stored.old stored.new) }
     ensures known { AreKnown inputs.now costs.new }
 {
-    if !desk.worked {
+    if !stored.worked {
         return Ok(0);
     }
-    let due = count_due(wishes, desk.time);
-    desk.admit(alloc, inputs, &wishes[..due], costs)?;
-    desk.rest();
+    let due = count_due(wishes, stored.time);
+    stored.admit(alloc, inputs, &wishes[..due], costs)?;
+    stored.rest();
     Ok(due)
 }
 
@@ -135,21 +135,21 @@ pub(crate) fn admit_from(
     inputs: &Inputs,
     wishes: &[CheckedWish],
     looked: usize,
-    desk: &mut Desk,
+    stored: &mut StoredState,
     costs: &mut KnownCosts,
 ) -> Result<usize, NoMemory>
     requires looked { looked ≤ length wishes.now }
     requires given { AreGiven inputs.now }
     requires wishes { (w : CheckedWish) → In w (drop looked wishes.now) → IsWishOf inputs.now w }
-    requires program { desk.old.machine.state.core.program ≡ program_of inputs.now.image }
-    requires rules { desk.old.search.rules ≡ rules_of inputs.now }
-    requires few { length desk.old.pairs + length (drop looked wishes.now) + taken_at_once < 2 ^ 31 }
-    requires costs { AllByRecursion (HasCost inputs.now) desk.old.pairs }
-    requires live { AreLive desk.old.machine.state.placer desk.old.pairs desk.old.live }
+    requires program { stored.old.machine.state.core.program ≡ program_of inputs.now.image }
+    requires rules { stored.old.search.rules ≡ rules_of inputs.now }
+    requires few { length stored.old.pairs + length (drop looked wishes.now) + taken_at_once < 2 ^ 31 }
+    requires costs { AllByRecursion (HasCost inputs.now) stored.old.pairs }
+    requires live { AreLive stored.old.machine.state.placer stored.old.pairs stored.old.live }
     requires known { AreKnown inputs.now costs.old }
-    ensures ok { IfOk result (IsAfterAdmission inputs.now (drop looked wishes.now) desk.old desk.new) }
-    ensures err { OnErr result (IsSame desk.old desk.new) }
+    ensures ok { IfOk result (IsAfterAdmission inputs.now (drop looked wishes.now) stored.old stored.new) }
+    ensures err { OnErr result (IsSame stored.old stored.new) }
     ensures known { AreKnown inputs.now costs.new }
 {
-    admit(alloc, inputs, &wishes[looked..], desk, costs)
+    admit(alloc, inputs, &wishes[looked..], stored, costs)
 }

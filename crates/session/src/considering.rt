@@ -17,9 +17,9 @@ ghost use Rattle.session.specs.Outcomes.{IsAdmissionStep};
 ghost use Rattle.session.specs.Tables.{AreReady, IsMore, IsStill, kept_of};
 
 use crate::candidate::Candidate;
-use crate::desk::Desk;
 use crate::inputs::Inputs;
 use crate::room::put_refused;
+use crate::stored::StoredState;
 use instrument::{InstrumentNo, State};
 use instrumented::InstrumentedMachine;
 use mdl_check::CheckedWish;
@@ -65,7 +65,7 @@ fn find_shown(
     Some(pair.shown.instrument)
 }
 
-impl Desk {
+impl StoredState {
     /// Appends a wish to the refused ones, if there is a cause. There is room for it.
     fn refuse(&mut self, wish: &CheckedWish, cause: Option<PickCause>)
         requires room { 0 < self.old.room }

@@ -3,7 +3,7 @@
 ghost use Rattle.std.specs.Prelude.{◌≡◌, ◌<◌, ◌^◌, IfOk, length};
 ghost use Rattle.session_spec.specs.Inputs.{inputs_of};
 ghost use Rattle.session_spec.specs.Searches.{rules_of};
-ghost use Rattle.session.specs.Contenders.{first_search};
+ghost use Rattle.session.specs.NodeCandidates.{first_search};
 ghost use Rattle.session.specs.Given.{AreGiven};
 
 use mdl_ast::SearchDecl;
@@ -114,7 +114,7 @@ impl Inputs {
     /// # Errors
     ///
     /// `NoMemory` where memory runs out.
-    #[tactic(auto, unfolding(crate::specs::Contenders::first_search))]
+    #[tactic(auto, unfolding(crate::specs::NodeCandidates::first_search))]
     pub(crate) fn search(&self, alloc: Global) -> Result<Search, NoMemory>
         requires { AreGiven self.now }
         ensures { IfOk result (λ search. search ≡ first_search self.now) }

@@ -10,9 +10,9 @@ ghost use Rattle.session.specs.Candidates.{IsCandidate, new_pair};
 ghost use Rattle.session.specs.Outcomes.{IsFailed, IsInstrumented, IsAdmissionStep};
 
 use crate::candidate::Candidate;
-use crate::desk::Desk;
 use crate::failure::Failure;
 use crate::inputs::Inputs;
+use crate::stored::StoredState;
 use instrument::InstrumentNo;
 use pn_types::Plan;
 use prim_code::predicted;
@@ -47,7 +47,7 @@ fn new_pair(inputs: &Inputs, plan: &Plan, candidate: Candidate, number: Instrume
     }
 }
 
-impl Desk {
+impl StoredState {
     /// Admits the plan of a pair, which is ready, under the limit of the cost if there is one, and returns the number of the
     /// instrument, which is the pair's from now on. There is room for it.
     ///

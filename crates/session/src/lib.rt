@@ -4,8 +4,6 @@
 mod admitting;
 mod candidate;
 mod considering;
-mod contenders;
-mod desk;
 mod failure;
 mod fault;
 mod inputs;
@@ -13,6 +11,7 @@ mod instrumenting;
 mod known_costs;
 mod later;
 mod laws;
+mod node_candidates;
 mod node_parts;
 mod opening;
 mod parts;
@@ -21,6 +20,7 @@ mod preparing;
 mod room;
 mod session;
 mod starting;
+mod stored;
 mod taking;
 mod tending;
 

@@ -1,4 +1,4 @@
-//! The desk at the beginning, and the memory for wishes.
+//! The stored at the beginning, and the memory for wishes.
 
 ghost use Rattle.std.specs.Prelude.{◌≡◌, ◌+◌, ◌<◌, ◌≤◌, ◌^◌, ◌⊎◌, IfOk, None, OnErr, OnOk, [], false, length, map};
 ghost use Rattle.std.specs.List.{AllByRecursion};
@@ -13,8 +13,8 @@ ghost use Rattle.mdl_plan.specs.Plans.{at_first};
 ghost use Rattle.session.specs.Given.{AreGiven, AreNarrow, IsNarrowConstraint, IsNarrowMetric};
 ghost use Rattle.session.specs.Tables.{first_table, table_at_first};
 
-use crate::desk::Desk;
 use crate::inputs::Inputs;
+use crate::stored::StoredState;
 use instrumented::InstrumentedMachine;
 use machine::Sample;
 use mdl_ast::{Constraint, Metric};
@@ -59,8 +59,8 @@ fn constraints_are_narrow(constraints: &[Constraint])
     }
 }
 
-impl Desk {
-    /// Makes the desk of a machine and a search, where nothing was done yet and work is due at the time `due`.
+impl StoredState {
+    /// Makes the stored of a machine and a search, where nothing was done yet and work is due at the time `due`.
     fn at_first(
         alloc: Global,
         machine: InstrumentedMachine,
@@ -68,10 +68,10 @@ impl Desk {
         marks: Vec<u64>,
         sample: Sample,
         due: u64,
-    ) -> Desk
+    ) -> StoredState
         ensures { result ≡ table_at_first machine search marks.items (length sample.readings) due }
     {
-        Desk {
+        StoredState {
             machine,
             refused: Vec::new(alloc),
             pairs: SampledPairs {
@@ -94,16 +94,16 @@ impl Desk {
         }
     }
 
-    /// Makes the desk as it is before any wish is looked at.
+    /// Makes the stored as it is before any wish is looked at.
     ///
     /// # Errors
     ///
     /// `NoMemory` where memory runs out.
-    pub(crate) fn new(alloc: Global, inputs: &Inputs) -> Result<Desk, NoMemory>
+    pub(crate) fn new(alloc: Global, inputs: &Inputs) -> Result<StoredState, NoMemory>
         requires { AreGiven inputs.now }
-        ensures first { IfOk result (λ desk. desk ≡ first_table inputs.now) }
-        ensures program { IfOk result (λ desk. IsProgram inputs.now.image) }
-        ensures narrow { IfOk result (λ desk. AreNarrow inputs.now) }
+        ensures first { IfOk result (λ stored. stored ≡ first_table inputs.now) }
+        ensures program { IfOk result (λ stored. IsProgram inputs.now.image) }
+        ensures narrow { IfOk result (λ stored. AreNarrow inputs.now) }
     {
         metrics_are_narrow(inputs.checked.metrics.as_slice());
         constraints_are_narrow(inputs.checked.constraints.as_slice());
@@ -118,7 +118,7 @@ impl Desk {
             settings.budget,
             settings.instruments,
         )?;
-        Ok(Desk::at_first(alloc, machine, search, marks, sample, settings.width))
+        Ok(StoredState::at_first(alloc, machine, search, marks, sample, settings.width))
     }
 
     /// Reserves memory to look at wishes and to take nodes with these plans, one each.

@@ -5,9 +5,9 @@ ghost use Rattle.std.specs.Option.{option_map};
 ghost use Rattle.session.specs.Parts.{metric_of, name_of, refused_part, shown_part, units_of};
 ghost use Rattle.session.specs.Seen.{hart_seen, pair_parts, table_parts};
 
-use crate::desk::Desk;
 use crate::inputs::Inputs;
 use crate::node_parts::search_part;
+use crate::stored::StoredState;
 use fold_hist::Hist;
 use instrumented::InstrumentedMachine;
 use mdl_ast::Metric;
@@ -146,22 +146,22 @@ fn shown_parts(
 }
 
 /// Returns what a report shows of a session, by what it goes on from.
-pub(crate) fn desk_parts(
+pub(crate) fn stored_parts(
     alloc: Global,
     inputs: &Inputs,
-    desk: &Desk,
+    stored: &StoredState,
 ) -> Result<ReportParts, NoMemory>
-    requires harts { inputs.now.settings.harts ≡ length desk.now.machine.state.core.harts }
+    requires harts { inputs.now.settings.harts ≡ length stored.now.machine.state.core.harts }
     requires few { inputs.now.settings.harts ≤ MAX_HARTS }
-    ensures { IfOk result (λ parts. parts ≡ table_parts inputs.now desk.now) }
+    ensures { IfOk result (λ parts. parts ≡ table_parts inputs.now stored.now) }
 {
-    let output = desk.machine.output().to_vec(alloc)?;
+    let output = stored.machine.output().to_vec(alloc)?;
     Ok(ReportParts {
-        harts: Seq::from_vec(hart_parts(alloc, &desk.machine, &inputs.settings)?),
-        samples: desk.samples,
+        harts: Seq::from_vec(hart_parts(alloc, &stored.machine, &inputs.settings)?),
+        samples: stored.samples,
         output: Text::from_vec(output),
-        refused: Seq::from_vec(refused_parts(alloc, inputs, desk.refused.as_slice())?),
-        shown: Seq::from_vec(shown_parts(alloc, inputs, desk.pairs.all.as_slice())?),
-        search: search_part(alloc, inputs, desk.search.nodes())?,
+        refused: Seq::from_vec(refused_parts(alloc, inputs, stored.refused.as_slice())?),
+        shown: Seq::from_vec(shown_parts(alloc, inputs, stored.pairs.all.as_slice())?),
+        search: search_part(alloc, inputs, stored.search.nodes())?,
     })
 }

@@ -21,14 +21,14 @@ ghost use Rattle.session.specs.Sessions.{new_session, IsStartFault, session_at, 
 ghost use Rattle.w3_search.specs.History.{IsHistory};
 
 use crate::admitting::admit_from;
-use crate::desk::Desk;
 use crate::fault::StartFault;
 use crate::inputs::Inputs;
 use crate::known_costs::KnownCosts;
 use crate::later::later;
-use crate::parts::desk_parts;
+use crate::parts::stored_parts;
 use crate::room::put_quantum;
 use crate::starting::opened;
+use crate::stored::StoredState;
 use instrumented::InstrumentedMachine;
 use mdl_check::{Checked, CheckedWish};
 use pn_types::{
@@ -47,7 +47,7 @@ pub struct Session {
     // The wishes after the opening, in the order of their ticks, and how many of them were looked at.
     wishes: Vec<CheckedWish>,
     looked: usize,
-    desk: Desk,
+    stored: StoredState,
     costs: KnownCosts,
     quanta: Vec<Quantum>,
     closed: bool,
@@ -66,9 +66,9 @@ impl Model for Session {
 
     ghost coded = { Prim.hlevel (codes, core_code) };
 
-    ghost view = { λ s. record { inputs = s.inputs; machine = s.desk.machine.state; quanta = s.quanta.items; closed = s.closed } };
+    ghost view = { λ s. record { inputs = s.inputs; machine = s.stored.machine.state; quanta = s.quanta.items; closed = s.closed } };
 
-    ghost invariant = { λ s. IsTableAfter s.inputs s.quanta.items s.closed (drop s.looked s.wishes.items) s.desk
+    ghost invariant = { λ s. IsTableAfter s.inputs s.quanta.items s.closed (drop s.looked s.wishes.items) s.stored
         × (s.looked ≤ vec_len s.wishes) × AreKnown s.inputs s.costs };
 }
 
@@ -79,7 +79,7 @@ impl Drop for Session {
             inputs: _,
             wishes: _,
             looked: _,
-            desk: _,
+            stored: _,
             costs: _,
             quanta: _,
             closed: _,
@@ -126,13 +126,13 @@ impl Session {
         ensures refused { IfErr result (IsStartFault inputs) }
     {
         let mut costs = KnownCosts::new(alloc);
-        let desk = opened(alloc, &inputs, &mut costs)?;
+        let stored = opened(alloc, &inputs, &mut costs)?;
         let wishes = later(alloc, inputs.checked.wishes.as_slice())?;
         Ok(Session {
             inputs,
             wishes,
             looked: 0,
-            desk,
+            stored,
             costs,
             quanta: Vec::new(alloc),
             closed: false,
@@ -144,7 +144,7 @@ impl Session {
     pub fn machine(&self) -> &InstrumentedMachine
         ensures { result.now.state ≡ self.now.machine }
     {
-        &self.desk.machine
+        &self.stored.machine
     }
 
     /// Returns the quanta that it took.
@@ -158,28 +158,28 @@ impl Session {
     pub fn time(&self) -> u64
         ensures { result ≡ (state_of self.now).kept.time }
     {
-        self.desk.time
+        self.stored.time
     }
 
     /// Returns how many times samples were taken.
     pub fn samples(&self) -> u64
         ensures { result ≡ (state_of self.now).kept.samples }
     {
-        self.desk.samples
+        self.stored.samples
     }
 
     /// Returns whether work was done at the end of the last quantum, so that an admission is due.
     pub fn worked(&self) -> bool
         ensures { result ≡ (state_of self.now).kept.worked }
     {
-        self.desk.worked
+        self.stored.worked
     }
 
     /// Returns the samples of the last time that any were taken, in the order of what they show.
     pub fn latest(&self) -> &[LatestSample]
         ensures { result.now ≡ (state_of self.now).latest }
     {
-        &self.desk.latest
+        &self.stored.latest
     }
 
     /// Returns what a report shows of it.
@@ -193,7 +193,7 @@ impl Session {
         ensures harts { IfOk result (λ parts. length parts.harts ≤ MAX_HARTS) }
         ensures ticks { IfOk result (λ parts. sum_by (λ part. part.ticks) parts.harts < 2 ^ 64) }
     {
-        desk_parts(self.alloc, &self.inputs, &self.desk)
+        stored_parts(self.alloc, &self.inputs, &self.stored)
     }
 
     /// What holds of it: each of its quanta was allowed when it came; its machine is the one that the definitions say. That machine
@@ -222,7 +222,7 @@ impl Session {
         ensures moments { self.now.closed ≡ false → AreWithin self.now.inputs (state_of self.now) }
     {
         // For the proof alone: `nodes` says that they are a history.
-        let _nodes = self.desk.search.nodes();
+        let _nodes = self.stored.search.nodes();
     }
 
     /// Returns whether the hart is runnable and there are fewer quanta than there may be: exactly then a quantum of it can follow,
@@ -235,7 +235,7 @@ impl Session {
         ensures few { IsTrue result → length self.now.quanta < MAX_QUANTA }
         ensures halted { self.now.closed ≡ false → result ≡ false → Halted self.now.inputs self.now.quanta hart }
     {
-        self.quanta.len() < MAX_QUANTA as usize && self.desk.runnable(HartNo::numbered(hart))
+        self.quanta.len() < MAX_QUANTA as usize && self.stored.runnable(HartNo::numbered(hart))
     }
 
     /// Returns whether no quantum can follow: the list of those that it took is whole.
@@ -294,12 +294,12 @@ impl Session {
             &self.inputs,
             &self.wishes,
             self.looked,
-            &mut self.desk,
+            &mut self.stored,
             &mut self.costs,
         )?;
         // From here on nothing fails.
         self.looked += looked;
-        let owns = self.desk.tend(HartNo::numbered(hart), turns, width);
+        let owns = self.stored.tend(HartNo::numbered(hart), turns, width);
         let quantum = Quantum {
             worker,
             hart,
@@ -316,7 +316,7 @@ impl Session {
         requires { self.old.closed ≡ false }
         ensures { self.new ≡ session_at self.old.inputs self.old.quanta true }
     {
-        self.desk.end();
+        self.stored.end();
         self.closed = true;
     }
 }

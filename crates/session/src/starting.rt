@@ -9,32 +9,32 @@ ghost use Rattle.session.specs.Given.{AreGiven};
 ghost use Rattle.session.specs.Kept.{IsAdmitted, IsTableAfter};
 ghost use Rattle.session.specs.Sessions.{IsStartFault};
 
-use crate::desk::Desk;
 use crate::fault::StartFault;
 use crate::inputs::Inputs;
 use crate::known_costs::KnownCosts;
 use crate::later::first;
 use crate::parts::refused_part;
+use crate::stored::StoredState;
 use pn_types::NoMemory;
 use session_spec::RefusedWish;
 use std::alloc::Global;
 
-/// Makes the desk after the admissions of the opening.
+/// Makes the stored after the admissions of the opening.
 ///
 /// # Errors
 ///
 /// `NoMemory` where memory runs out.
-fn admitted(alloc: Global, inputs: &Inputs, costs: &mut KnownCosts) -> Result<Desk, NoMemory>
+fn admitted(alloc: Global, inputs: &Inputs, costs: &mut KnownCosts) -> Result<StoredState, NoMemory>
     requires given { AreGiven inputs.now }
     requires known { AreKnown inputs.now costs.old }
     ensures known { AreKnown inputs.now costs.new }
     ensures admitted { IfOk result (IsAdmitted inputs.now) }
-    ensures picked { IfOk result (λ desk. first_refused desk.refused ≡ bad_pick inputs.now) }
+    ensures picked { IfOk result (λ stored. first_refused stored.refused ≡ bad_pick inputs.now) }
 {
     let wishes = first(alloc, inputs.checked.wishes.as_slice())?;
-    let mut desk = Desk::new(alloc, inputs)?;
-    desk.admit(alloc, inputs, &wishes, costs)?;
-    Ok(desk)
+    let mut stored = StoredState::new(alloc, inputs)?;
+    stored.admit(alloc, inputs, &wishes, costs)?;
+    Ok(stored)
 }
 
 /// Returns the first wish that was refused, if one was.
@@ -63,7 +63,7 @@ fn pick(alloc: Global, inputs: &Inputs, refused: &[RefusedWish]) -> Result<(), S
     }
 }
 
-/// Makes the desk after the opening.
+/// Makes the stored after the opening.
 ///
 /// # Errors
 ///
@@ -72,16 +72,16 @@ pub(crate) fn opened(
     alloc: Global,
     inputs: &Inputs,
     costs: &mut KnownCosts,
-) -> Result<Desk, StartFault>
+) -> Result<StoredState, StartFault>
     requires given { AreGiven inputs.now }
     requires known { AreKnown inputs.now costs.old }
     ensures known { AreKnown inputs.now costs.new }
     ensures kept { IfOk result (IsTableAfter inputs.now [] false (later_wishes inputs.now)) }
-    ensures picked { IfOk result (λ desk. bad_pick inputs.now ≡ None) }
+    ensures picked { IfOk result (λ stored. bad_pick inputs.now ≡ None) }
     ensures refused { IfErr result (IsStartFault inputs.now) }
 {
-    let mut desk = admitted(alloc, inputs, costs)?;
-    pick(alloc, inputs, &desk.refused)?;
-    desk.open();
-    Ok(desk)
+    let mut stored = admitted(alloc, inputs, costs)?;
+    pick(alloc, inputs, &stored.refused)?;
+    stored.open();
+    Ok(stored)
 }

@@ -11,14 +11,14 @@ ghost use Rattle.w3_search.specs.Nodes.{is_waiting};
 ghost use Rattle.w3_search.specs.Steps.{Waits};
 ghost use Rattle.session_spec.specs.Tests.{barred, with_node, with_nodes};
 ghost use Rattle.session_pairs.specs.SampledPairs.{AreLive};
-ghost use Rattle.session.specs.Contenders.{AreContenders, HasCost, IsContender, IsOneChanged, counted, force_in, candidate_number, numbers_in};
+ghost use Rattle.session.specs.NodeCandidates.{AreNodeCandidates, HasCost, IsNodeCandidate, IsOneChanged, counted, force_in, candidate_number, numbers_in};
 ghost use Rattle.session.specs.Outcomes.{IsAdmissionStep};
 ghost use Rattle.session.specs.Tables.{AreReady, IsMore, IsStill, kept_of};
 
 use crate::candidate::Candidate;
-use crate::contenders::must_wait;
-use crate::desk::Desk;
 use crate::inputs::Inputs;
+use crate::node_candidates::must_wait;
+use crate::stored::StoredState;
 use instrument::State;
 use pn_types::{BarCause, Plan};
 use prim_code::predicted;
@@ -27,7 +27,7 @@ use std::alloc::Global;
 use std::collections::VecDeque;
 use w3_search::NodeState;
 
-impl Desk {
+impl StoredState {
     /// Returns what a pair adds to the costs in force, in words.
     fn counted(&self, pair: &SampledPair) -> u64
         ensures { result ≡ counted self.now.machine.state.placer pair.now }
@@ -87,7 +87,7 @@ impl Desk {
     ) -> u64
         requires room { 0 < self.old.room }
         requires program { self.old.machine.state.core.program ≡ program_of inputs.now.image }
-        requires contender { IsContender inputs.now self.old.search.nodes plan.now candidate }
+        requires node_candidate { IsNodeCandidate inputs.now self.old.search.nodes plan.now candidate }
         requires ready { In (need_of plan.now) self.old.machine.ready }
         requires live { AreLive self.old.machine.state.placer self.old.pairs self.old.live }
         requires costs { AllByRecursion (HasCost inputs.now) self.old.pairs }
@@ -132,7 +132,7 @@ impl Desk {
     )
         requires room { length plans.now ≤ self.old.room }
         requires program { self.old.machine.state.core.program ≡ program_of inputs.now.image }
-        requires each { AreContenders inputs.now self.old.search.nodes plans.now candidates.items }
+        requires each { AreNodeCandidates inputs.now self.old.search.nodes plans.now candidates.items }
         requires ready { AreReady (map need_of plans.now) self.old.machine.ready }
         requires live { AreLive self.old.machine.state.placer self.old.pairs self.old.live }
         requires few { length self.old.pairs + length plans.now < 2 ^ 31 }

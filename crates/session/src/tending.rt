@@ -1,4 +1,4 @@
-//! What a desk does in a quantum, at the opening and at the end.
+//! What a stored does in a quantum, at the opening and at the end.
 
 ghost use Rattle.std.specs.Prelude.{◌≡◌, ◌+◌, ◌<◌, ◌≤◌, ◌^◌, length};
 ghost use Rattle.std.specs.List.{AllByRecursion};
@@ -8,11 +8,11 @@ ghost use Rattle.machine.specs.States.{quantum_turns};
 ghost use Rattle.session_pairs.specs.SampledPairs.{AreLive, HasHarts};
 ghost use Rattle.session.specs.Tables.{CanSample, table_closed, table_opened, table_tended, table_worked};
 
-use crate::desk::Desk;
+use crate::stored::StoredState;
 use pn_types::HartNo;
 use session_pairs::hand_out;
 
-impl Desk {
+impl StoredState {
     /// Does the work that is due: it settles, samples, frees, arms and judges.
     #[inline(never)]
     fn work(&mut self, width: u64)

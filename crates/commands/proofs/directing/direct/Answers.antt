@@ -7,11 +7,11 @@ use Rattle.refusals.specs.Refusals.{Step, Then}
 use Rattle.refusals.specs.declared.fault.Fault.{Fault}
 use Rattle.resource_tree.specs.Resources.{Resources}
 use Rattle.commands.proofs.Behind.{looks_behind}
-use Rattle.commands.proofs.SightSteps.{comes_as, direction_from, inputs_again, seen_from}
+use Rattle.commands.proofs.FileReadingSteps.{comes_as, direction_from, inputs_again, seen_from}
 use Rattle.commands.specs.Directing.{IsDirection}
 use Rattle.commands.specs.Found.{IsFound}
 use Rattle.commands.specs.Inputs.{AreInputs}
-use Rattle.commands.specs.Sights.{FileReading, reads}
+use Rattle.commands.specs.FileReadings.{FileReading, reads}
 use Rattle.commands.specs.declared.inputs.Inputs.{Inputs}
 use Rattle.commands.specs.declared.texts.Texts.{Texts}
 use Rattle.commands.proofs.directing.direct.Goals as goal

@@ -3,7 +3,7 @@ use Rattle.directives.specs.declared.directive.Directive.{Directive}
 use Rattle.refusals.proofs.Steps.{comes_then, handed_on}
 use Rattle.refusals.specs.Refusals.{Step, Comes}
 use Rattle.commands.specs.Directing.{IsDirectivesContent, MeansDirectives}
-use Rattle.commands.specs.Sights.{FileReading, reads}
+use Rattle.commands.specs.FileReadings.{FileReading, reads}
 use Rattle.commands.proofs.directing.read_directions.Goals as goal
 
 abbrev step : List ℕ → Step (List Directive)

@@ -1,8 +1,8 @@
 use Rattle.std.proofs.Common.{ℕ, List, Ok, Err, refl, sym, ap, subst, arith}
 use Rattle.refusals.specs.declared.fault.Fault.TheVariants.{FileFault}
 use Rattle.outside.specs.Outside.{IsBytes}
-use Rattle.commands.proofs.SightSteps.{some_longer, short_content, long_content, unread_content}
-use Rattle.commands.specs.Sights.{FileReading, reads, IsContent}
+use Rattle.commands.proofs.FileReadingSteps.{some_longer, short_content, long_content, unread_content}
+use Rattle.commands.specs.FileReadings.{FileReading, reads, IsContent}
 use Rattle.commands.proofs.files.read_file.Goals as goal
 
 pub returns-in-Ok-clause-content : goal.returns-in-Ok-clause-content

@@ -3,7 +3,7 @@ use Rattle.mdl_ast.specs.declared.items.Conf.{Conf}
 use Rattle.refusals.proofs.Steps.{comes_then, handed_on}
 use Rattle.refusals.specs.Refusals.{Step, Comes}
 use Rattle.commands.specs.Inputs.{IsConfContent, MeansConf}
-use Rattle.commands.specs.Sights.{FileReading, reads}
+use Rattle.commands.specs.FileReadings.{FileReading, reads}
 use Rattle.commands.proofs.inputs.read_configuration.Goals as goal
 
 abbrev step : List ℕ → Step Conf

@@ -4,9 +4,9 @@ use Rattle.pn_types.specs.declared.image.Image.{Image}
 use Rattle.refusals.proofs.Steps.{comes_then, handed_on}
 use Rattle.refusals.specs.Refusals.{Step, Then}
 use Rattle.refusals.specs.declared.fault.Fault.{Fault}
-use Rattle.commands.proofs.SightSteps.{program_again, seen_from, configuration_from, refuses_as}
+use Rattle.commands.proofs.FileReadingSteps.{program_again, seen_from, configuration_from, refuses_as}
 use Rattle.commands.specs.Inputs.{IsProgramOfFile, IsConfiguration}
-use Rattle.commands.specs.Sights.{FileReading, reads}
+use Rattle.commands.specs.FileReadings.{FileReading, reads}
 use Rattle.commands.specs.declared.inputs.Inputs.{Inputs}
 use Rattle.commands.proofs.inputs.read_inputs.Goals as goal
 

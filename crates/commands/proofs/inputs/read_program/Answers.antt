@@ -3,7 +3,7 @@ use Rattle.pn_types.specs.declared.image.Image.{Image}
 use Rattle.refusals.proofs.Steps.{comes_then, handed_on}
 use Rattle.refusals.specs.Refusals.{Step, Comes}
 use Rattle.commands.specs.Inputs.{IsProgramContent, image_of}
-use Rattle.commands.specs.Sights.{FileReading, reads}
+use Rattle.commands.specs.FileReadings.{FileReading, reads}
 use Rattle.commands.proofs.inputs.read_program.Goals as goal
 
 abbrev step : List ℕ → Step Image

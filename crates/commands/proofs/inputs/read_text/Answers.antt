@@ -2,7 +2,7 @@ use Rattle.std.proofs.Common.{◌≡◌, ℕ, List, subst}
 use Rattle.refusals.proofs.Steps.{comes_then, handed_on}
 use Rattle.refusals.specs.Refusals.{Step, Comes}
 use Rattle.commands.specs.Inputs.{IsProgramContent, file_of}
-use Rattle.commands.specs.Sights.{FileReading, reads}
+use Rattle.commands.specs.FileReadings.{FileReading, reads}
 use Rattle.commands.proofs.inputs.read_text.Goals as goal
 
 abbrev step : List ℕ → Step (List ℕ)

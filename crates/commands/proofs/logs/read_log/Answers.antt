@@ -2,7 +2,7 @@ use Rattle.std.proofs.Common.{ℕ, List, subst}
 use Rattle.refusals.proofs.Steps.{comes_then, handed_on}
 use Rattle.refusals.specs.Refusals.{Step, Comes}
 use Rattle.commands.specs.Logs.{IsLogContent, MeansLog}
-use Rattle.commands.specs.Sights.{FileReading, reads}
+use Rattle.commands.specs.FileReadings.{FileReading, reads}
 use Rattle.commands.specs.declared.logs.Log.{Log}
 use Rattle.commands.proofs.logs.read_log.Goals as goal
 

@@ -4,7 +4,7 @@ use Rattle.refusals.specs.Refusals.{Step, Then}
 use Rattle.commands.specs.Plans.{IsPlan}
 use Rattle.commands.specs.Found.{IsFound}
 use Rattle.commands.specs.Inputs.{AreInputs}
-use Rattle.commands.specs.Sights.{FileReading, reads}
+use Rattle.commands.specs.FileReadings.{FileReading, reads}
 use Rattle.commands.specs.declared.inputs.Inputs.{Inputs}
 use Rattle.commands.specs.declared.texts.Texts.{Texts}
 use Rattle.commands.proofs.planning.plan.Goals as goal

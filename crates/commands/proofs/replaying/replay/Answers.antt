@@ -3,11 +3,11 @@ use Rattle.command_words.specs.Asked.{asked_replay}
 use Rattle.refusals.proofs.Steps.{comes_then, handed_on}
 use Rattle.refusals.specs.Refusals.{Step, Then}
 use Rattle.refusals.specs.declared.fault.Fault.{Fault}
-use Rattle.commands.proofs.SightSteps.{inputs_again, log_from, refuses_as, seen_from}
+use Rattle.commands.proofs.FileReadingSteps.{inputs_again, log_from, refuses_as, seen_from}
 use Rattle.commands.specs.Inputs.{AreInputs}
 use Rattle.commands.specs.Logs.{IsLog}
 use Rattle.commands.specs.Replays.{IsReplayOf}
-use Rattle.commands.specs.Sights.{FileReading, reads}
+use Rattle.commands.specs.FileReadings.{FileReading, reads}
 use Rattle.commands.specs.declared.inputs.Inputs.{Inputs}
 use Rattle.commands.specs.declared.logs.Log.{Log}
 use Rattle.commands.specs.declared.texts.Texts.{Texts}

@@ -7,9 +7,9 @@ use Rattle.outside.specs.SureFiles.{held_in}
 use Rattle.refusals.specs.Refusals.{Comes}
 use Rattle.commands.specs.Preparing.{IsPreparedOf}
 use Rattle.commands.specs.Runs.{IsPrepared, stress_session, stress_sight}
-use Rattle.commands.specs.Sights.{FileReading, reads}
+use Rattle.commands.specs.FileReadings.{FileReading, reads}
 use Rattle.commands.proofs.Prepared.{gives_as}
-use Rattle.commands.proofs.SightSteps.{prepared_from, seen_sure}
+use Rattle.commands.proofs.FileReadingSteps.{prepared_from, seen_sure}
 use Rattle.stress_run.specs.Configuration.{configuration_text}
 use Rattle.stress_run.specs.Program.{program_text}
 use Rattle.commands.proofs.stressing.prepare_made.Goals as goal

@@ -1,5 +1,5 @@
 use Rattle.command_words.specs.Requests.{request_of}
-use Rattle.commands.specs.Sights.{reads}
+use Rattle.commands.specs.FileReadings.{reads}
 use Rattle.headline.proofs.Meant.{tells}
 use Rattle.headline.proofs.Ranges.{ranged}
 use Rattle.headline.proofs.laws.owed_is_honest.Goals as goal

@@ -16,8 +16,8 @@ invariant_of-result c =
     let i = c.args.inputs in
     let all = c.as_slice.ensures ∙ ap (λ (x : Inputs). x.checked.wishes) c.inputs.view_is in
     let later : c.in_ok-wishes.wishes.items ≡ later_wishes i = c.in_ok-wishes.ensures ∙ ap later_of all in
-    let kept : IsTableAfter i [] false c.in_ok-wishes.wishes.items c.in_ok-desk.desk = subst (λ (ws : List CheckedWish). IsTableAfter i [] false ws c.in_ok-desk.desk) (sym later) c.in_ok-desk.ensures.kept in
-    (subst (λ (quanta : List Quantum). IsTableAfter i quanta false c.in_ok-wishes.wishes.items c.in_ok-desk.desk) (sym c.new.ensures.items) kept, omega arith, c.opened.ensures.known)
+    let kept : IsTableAfter i [] false c.in_ok-wishes.wishes.items c.in_ok-stored.stored = subst (λ (ws : List CheckedWish). IsTableAfter i [] false ws c.in_ok-stored.stored) (sym later) c.in_ok-stored.ensures.kept in
+    (subst (λ (quanta : List Quantum). IsTableAfter i quanta false c.in_ok-wishes.wishes.items c.in_ok-stored.stored) (sym c.new.ensures.items) kept, omega arith, c.opened.ensures.known)
 
 pub returns-in_err-wishes-clause-refused : goal.returns-in_err-wishes-clause-refused
 returns-in_err-wishes-clause-refused c = fails c.args.inputs c.from_residual-in_err-wishes.result c.from_residual-in_err-wishes.ensures.1

@@ -29,16 +29,16 @@ end-requires-clause-sampled c =
     let going : s.closed ≡ false = ap (λ (x : SessionData). x.closed) c.self.view_is ∙ c.requires in
     let few = k.allowed.few in
     let samples = k.fewer going in
-    can_sample s.inputs s.quanta.items s.closed (drop s.looked s.wishes.items) s.desk k (omega arith) few
+    can_sample s.inputs s.quanta.items s.closed (drop s.looked s.wishes.items) s.stored k (omega arith) few
 
 pub invariant_of-self : goal.invariant_of-self
 invariant_of-self c =
     let s = c.self.inside in
     let later = drop s.looked s.wishes.items in
     let going : s.closed ≡ false = ap (λ (x : SessionData). x.closed) c.self.view_is ∙ c.requires in
-    let kept : IsTableAfter s.inputs s.quanta.items false later s.desk = subst (λ b. IsTableAfter s.inputs s.quanta.items b later s.desk) going c.self.invariant.0 in
+    let kept : IsTableAfter s.inputs s.quanta.items false later s.stored = subst (λ b. IsTableAfter s.inputs s.quanta.items b later s.stored) going c.self.invariant.0 in
     let e = c.end.ensures in
-    (end_kept s.inputs s.quanta.items later s.desk c.end.new.self kept e.table e.quiet e.harts e.later e.live, c.self.invariant.1, c.self.invariant.2)
+    (end_kept s.inputs s.quanta.items later s.stored c.end.new.self kept e.table e.quiet e.harts e.later e.live, c.self.invariant.1, c.self.invariant.2)
 
 pub returns : goal.returns
 returns c =
@@ -46,8 +46,8 @@ returns c =
     let d = c.args.self.now in
     let later = drop s.looked s.wishes.items in
     let going : s.closed ≡ false = ap (λ (x : SessionData). x.closed) c.self.view_is ∙ c.requires in
-    let kept : IsTableAfter s.inputs s.quanta.items false later s.desk = subst (λ b. IsTableAfter s.inputs s.quanta.items b later s.desk) going c.self.invariant.0 in
+    let kept : IsTableAfter s.inputs s.quanta.items false later s.stored = subst (λ b. IsTableAfter s.inputs s.quanta.items b later s.stored) going c.self.invariant.0 in
     let e = c.end.ensures in
-    let over = end_kept s.inputs s.quanta.items later s.desk c.end.new.self kept e.table e.quiet e.harts e.later e.live in
+    let over = end_kept s.inputs s.quanta.items later s.stored c.end.new.self kept e.table e.quiet e.harts e.later e.live in
     ap (λ (m : Instrumented). record { inputs = s.inputs; machine = m; quanta = s.quanta.items; closed = true }) (ap (λ (k : SessionState). k.machine) over.state.kept)
     ∙ ap (λ (x : SessionData). session_at x.inputs x.quanta true) c.self.view_is

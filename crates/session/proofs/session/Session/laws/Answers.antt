@@ -30,12 +30,12 @@ pub returns-clause-run : goal.returns-clause-run
 returns-clause-run c =
     let s = c.self.inside in
     subst (λ (x : SessionData). IsRun x.inputs (state_of x)) c.self.view_is
-    (is_run s.inputs (state_at s.inputs s.quanta.items s.closed) (lasts_in s.desk.pairs) c.self.invariant.0.state.sound)
+    (is_run s.inputs (state_at s.inputs s.quanta.items s.closed) (lasts_in s.stored.pairs) c.self.invariant.0.state.sound)
 
 pub returns-clause-history : goal.returns-clause-history
 returns-clause-history c =
     let s = c.self.inside in
-    let held : IsHistory s.desk.search = subst (λ (x : Inside). IsHistory x.desk.search) c.self-inside.view_is c.nodes-nodes.ensures.history in
+    let held : IsHistory s.stored.search = subst (λ (x : Inside). IsHistory x.stored.search) c.self-inside.view_is c.nodes-nodes.ensures.history in
     subst (λ (x : SessionData). IsHistory (state_of x).kept.search) c.self.view_is (subst (λ (k : SessionState). IsHistory k.search) c.self.invariant.0.state.kept held)
 
 -- ---- what was recorded
@@ -43,12 +43,12 @@ returns-clause-history c =
 pub returns-clause-bins : goal.returns-clause-bins
 returns-clause-bins c =
     let s = c.self.inside in
-    subst (λ (x : SessionData). AreRecorded x.inputs (state_of x)) c.self.view_is (all_recorded s.inputs s.quanta.items s.closed (drop s.looked s.wishes.items) s.desk c.self.invariant.0)
+    subst (λ (x : SessionData). AreRecorded x.inputs (state_of x)) c.self.view_is (all_recorded s.inputs s.quanta.items s.closed (drop s.looked s.wishes.items) s.stored c.self.invariant.0)
 
 pub returns-clause-parts : goal.returns-clause-parts
 returns-clause-parts c =
     let s = c.self.inside in
-    subst (λ (x : SessionData). AreParts x.inputs (state_of x)) c.self.view_is (all_parts s.inputs s.quanta.items s.closed (drop s.looked s.wishes.items) s.desk c.self.invariant.0)
+    subst (λ (x : SessionData). AreParts x.inputs (state_of x)) c.self.view_is (all_parts s.inputs s.quanta.items s.closed (drop s.looked s.wishes.items) s.stored c.self.invariant.0)
 
 pub returns-clause-feed : goal.returns-clause-feed
 returns-clause-feed c =
@@ -58,24 +58,24 @@ returns-clause-feed c =
 pub returns-clause-read : goal.returns-clause-read
 returns-clause-read c =
     let s = c.self.inside in
-    subst (λ (x : SessionData). x.closed ≡ false → AreReadNext x.inputs x.quanta (state_of x)) c.self.view_is (all_read s.inputs s.quanta.items s.closed (drop s.looked s.wishes.items) s.desk c.self.invariant.0)
+    subst (λ (x : SessionData). x.closed ≡ false → AreReadNext x.inputs x.quanta (state_of x)) c.self.view_is (all_read s.inputs s.quanta.items s.closed (drop s.looked s.wishes.items) s.stored c.self.invariant.0)
 
 pub returns-clause-whole : goal.returns-clause-whole
 returns-clause-whole c =
     let s = c.self.inside in
-    subst (λ (x : SessionData). x.closed ≡ true → AreForOpening x.inputs → AreWholeRuns x.inputs (state_of x)) c.self.view_is (all_whole s.inputs s.quanta.items s.closed (drop s.looked s.wishes.items) s.desk c.self.invariant.0)
+    subst (λ (x : SessionData). x.closed ≡ true → AreForOpening x.inputs → AreWholeRuns x.inputs (state_of x)) c.self.view_is (all_whole s.inputs s.quanta.items s.closed (drop s.looked s.wishes.items) s.stored c.self.invariant.0)
 
 pub returns-clause-whole_parts : goal.returns-clause-whole_parts
 returns-clause-whole_parts c =
     let s = c.self.inside in
-    subst (λ (x : SessionData). x.closed ≡ true → AreForOpening x.inputs → AreWholeParts x.inputs (state_of x)) c.self.view_is (whole_parts s.inputs s.quanta.items s.closed (drop s.looked s.wishes.items) s.desk c.self.invariant.0)
+    subst (λ (x : SessionData). x.closed ≡ true → AreForOpening x.inputs → AreWholeParts x.inputs (state_of x)) c.self.view_is (whole_parts s.inputs s.quanta.items s.closed (drop s.looked s.wishes.items) s.stored c.self.invariant.0)
 
 -- ---- the search
 
 pub returns-clause-verdicts : goal.returns-clause-verdicts
 returns-clause-verdicts c =
     let s = c.self.inside in
-    subst (λ (x : SessionData). x.closed ≡ false → AreJudged x.inputs (state_of x)) c.self.view_is (all_judged s.inputs s.quanta.items s.closed (drop s.looked s.wishes.items) s.desk c.self.invariant.0)
+    subst (λ (x : SessionData). x.closed ≡ false → AreJudged x.inputs (state_of x)) c.self.view_is (all_judged s.inputs s.quanta.items s.closed (drop s.looked s.wishes.items) s.stored c.self.invariant.0)
 
 pub returns-clause-bars : goal.returns-clause-bars
 returns-clause-bars c =
@@ -85,7 +85,7 @@ returns-clause-bars c =
 pub returns-clause-told : goal.returns-clause-told
 returns-clause-told c =
     let s = c.self.inside in
-    subst (λ (x : SessionData). x.closed ≡ true → AreEnded x.inputs x.quanta (state_of x)) c.self.view_is (all_ended s.inputs s.quanta.items s.closed (drop s.looked s.wishes.items) s.desk c.self.invariant.0)
+    subst (λ (x : SessionData). x.closed ≡ true → AreEnded x.inputs x.quanta (state_of x)) c.self.view_is (all_ended s.inputs s.quanta.items s.closed (drop s.looked s.wishes.items) s.stored c.self.invariant.0)
 
 pub returns-clause-cost : goal.returns-clause-cost
 returns-clause-cost c =

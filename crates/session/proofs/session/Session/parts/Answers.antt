@@ -16,16 +16,16 @@ of_parts (Err fault) all P e p = tt
 pub returns-clause-parts : goal.returns-clause-parts
 returns-clause-parts c =
     let s = c.self.inside in
-    let are = parts_are s.inputs (state_at s.inputs (s.quanta).items s.closed) (drop s.looked (s.wishes).items) s.desk c.self.invariant.0.state in
-    subst (λ (d : SessionData). IfOk c.desk_parts.result (λ parts. parts ≡ parts_of d.inputs (state_of d))) c.self.view_is
-    (subst (λ all. IfOk c.desk_parts.result (λ parts. parts ≡ all)) are c.desk_parts.ensures)
+    let are = parts_are s.inputs (state_at s.inputs (s.quanta).items s.closed) (drop s.looked (s.wishes).items) s.stored c.self.invariant.0.state in
+    subst (λ (d : SessionData). IfOk c.stored_parts.result (λ parts. parts ≡ parts_of d.inputs (state_of d))) c.self.view_is
+    (subst (λ all. IfOk c.stored_parts.result (λ parts. parts ≡ all)) are c.stored_parts.ensures)
 
 pub returns-clause-harts : goal.returns-clause-harts
 returns-clause-harts c =
     let s = c.self.inside in
-    of_parts c.desk_parts.result (table_parts s.inputs s.desk) (λ parts. length parts.harts ≤ MAX_HARTS) c.desk_parts.ensures (parts_few s.inputs (s.quanta).items s.closed (drop s.looked (s.wishes).items) s.desk c.self.invariant.0)
+    of_parts c.stored_parts.result (table_parts s.inputs s.stored) (λ parts. length parts.harts ≤ MAX_HARTS) c.stored_parts.ensures (parts_few s.inputs (s.quanta).items s.closed (drop s.looked (s.wishes).items) s.stored c.self.invariant.0)
 
 pub returns-clause-ticks : goal.returns-clause-ticks
 returns-clause-ticks c =
     let s = c.self.inside in
-    of_parts c.desk_parts.result (table_parts s.inputs s.desk) (λ parts. sum_by (λ part. part.ticks) parts.harts < 2 ^ 64) c.desk_parts.ensures (ticks_few s.inputs (s.quanta).items s.closed (drop s.looked (s.wishes).items) s.desk c.self.invariant.0)
+    of_parts c.stored_parts.result (table_parts s.inputs s.stored) (λ parts. sum_by (λ part. part.ticks) parts.harts < 2 ^ 64) c.stored_parts.ensures (ticks_few s.inputs (s.quanta).items s.closed (drop s.looked (s.wishes).items) s.stored c.self.invariant.0)
