@@ -64,7 +64,7 @@ impl<'a> Model for Entry<'a> {
 impl<'a> Entry<'a> {
     /// An item at this line with this focus.
     pub(crate) fn new(placed: &PlacedItem<'a>, focus: Option<Focus>) -> Entry<'a>
-        ensures { result ≡ entry placed_item.now.line placed_item.now.item focus }
+        ensures { result ≡ entry placed.now.line placed.now.item focus }
     {
         Entry {
             line: placed.line(),
