@@ -6,7 +6,7 @@
 ghost use Rattle.std.specs.Prelude.{◌≡◌, ◌-◌, ◌<◌, ◌^◌, IfOk, IfSome, length};
 ghost use Rattle.std.specs.List.{AllByRecursion};
 ghost use Rattle.frame_walk.specs.Rooms.{IsSmall};
-ghost use Rattle.machine.specs.Effects.{after};
+ghost use Rattle.machine.specs.Effects.{after_event};
 ghost use Rattle.machine.specs.Events.{Arm, May};
 ghost use Rattle.test_examples.specs.LoopCounted as example;
 ghost use Rattle.test_examples.specs.LoopCounted.{counting, linking, loop_core};
@@ -136,7 +136,7 @@ fn link_blocks(machine: &mut Machine, base: &Block, mini: &Block)
 fn arm(machine: &mut Machine, counter: &Placed)
     requires may { May machine.old.core (Arm counter.now) }
     requires small { AllByRecursion IsSmall counter.now.opens }
-    ensures { machine.new ≡ with_core machine.old (after machine.old.core (Arm counter.now)) }
+    ensures { machine.new ≡ with_core machine.old (after_event machine.old.core (Arm counter.now)) }
 {
     let _armed = machine.arm(counter);
 }
