@@ -11,6 +11,6 @@ pub use command_words::log_name;
 pub use commands::{Found, Inputs, Texts, find, read_inputs};
 pub use delivery::deliver;
 pub use laws::{one_owed, owed_is_honest, session_is_readable};
-pub use program::{Words, run_program, tell};
+pub use program::{Words, run_program};
 pub use refusals::{ConfFault, ConfKind, Fault, LogCause, ProgramFault, faults_text};
 pub use top::{paradyn, serve};

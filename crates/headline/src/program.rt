@@ -23,9 +23,8 @@ pub enum Words {
     NoMemory,
 }
 
-/// Does what [`paradyn`] does. With status 0 the texts that the sinks gained tell of the files that the words name what the headline says
-/// of the command.
-pub fn tell<R: Threads + Wait + Sync, F: Files, K: Sink, L: Sink, G: Gate + Sync>(
+/// Does what `paradyn` does, and proves what its texts tell.
+fn tell<R: Threads + Wait + Sync, F: Files, K: Sink, L: Sink, G: Gate + Sync>(
     rt: &R,
     alloc: Global,
     words: &[String],
