@@ -7,14 +7,13 @@ use Rattle.std.proofs.Math.Seq.{take-length}
 use Rattle.std.proofs.lemmas.List.Sums.{sum_by-cons}
 use Rattle.rv_word.specs.Plain.{Words, Plain, PlainHart, plain}
 use Rattle.rv_word.specs.Registers.{arguments_of}
-use Rattle.rv_exec.specs.Run.{Position, position_of, trace_from}
+use Rattle.rv_exec.specs.Run.{Position, executions, position_of, trace_from}
 use Rattle.rv_exec.proofs.Runs.{length-plain}
 use Rattle.pn_types.specs.declared.plan.Site.{Site}
 use Rattle.frame_walk.specs.Openings.{entry_statements, of_calls, of_caller, of_pc, opening}
 use Rattle.frame_walk.specs.Walks.{Walk, walk}
 use Rattle.tramp_spec.specs.Values.{values_after}
 use Rattle.machine.specs.Measures.{Level, level, level_at, measure, measure_of, measured, opening_level, passed_by, site_values, difference}
-use Rattle.block_count.specs.Counted.{positions_at}
 use Rattle.block_count.specs.Counters.{one_more, passes, plan_at}
 
 -- one where the test holds
@@ -153,12 +152,12 @@ first_is a g b (suc n) s l m = by (g == b) refl (λ k. first_is a g (b + 1) n s 
         let z : 0 + first_of a g (range_with_len (b + 1) n) s ≡ first_of a g (range_with_len (b + 1) n) s = omega arith in
         ap (λ c. cond c (at_point a (slice_get s.harts b)) 0 + first_of a g (range_with_len (b + 1) n) s) i ∙ z ∙ rest (omega arith)
 
-position_counts : (a g : ℕ) (o : Option PlainHart) (rest : List Position) → positions_at a (position_of g o rest) ≡ at_point a o + positions_at a rest
-position_counts a g None rest = let z : positions_at a rest ≡ 0 + positions_at a rest = omega arith in z
+position_counts : (a g : ℕ) (o : Option PlainHart) (rest : List Position) → executions a (position_of g o rest) ≡ at_point a o + executions a rest
+position_counts a g None rest = let z : executions a rest ≡ 0 + executions a rest = omega arith in z
 position_counts a g (Some x) rest = sum_by-cons (λ (q : Position). cond (q.pc == a) 1 0) (record { hart = g; pc = x.pc; arguments = arguments_of x.regs }) rest
 
 -- the positions of all harts are those of the trace
-pub all_positions : (t : Words) (a n : ℕ) (turns : List ℕ) (s : Plain) → length s.harts ≡ n → of_harts t a (range_with_len 0 n) turns s ≡ positions_at a (trace_from t turns s)
+pub all_positions : (t : Words) (a n : ℕ) (turns : List ℕ) (s : Plain) → length s.harts ≡ n → of_harts t a (range_with_len 0 n) turns s ≡ executions a (trace_from t turns s)
 all_positions t a n [] s many = none (range_with_len 0 n)
   where
     none : (harts : List ℕ) → of_harts t a harts [] s ≡ 0
@@ -171,5 +170,5 @@ all_positions t a n (g ∷ turns) s many =
     ∙ ap (λ m. at_point a (slice_get s.harts g) + m) rest ∙ sym (position_counts a g (slice_get s.harts g) (trace_from t turns (plain t g s)))
 
 -- The plan measures the positions of its word.
-pub measures_positions : (t : Words) (a n : ℕ) (turns : List ℕ) (s : Plain) → length s.harts ≡ n → measure t (plan_at a) (range_with_len 0 n) 0 0 (length turns) turns s ≡ positions_at a (trace_from t turns s) % 2 ^ 64
+pub measures_positions : (t : Words) (a n : ℕ) (turns : List ℕ) (s : Plain) → length s.harts ≡ n → measure t (plan_at a) (range_with_len 0 n) 0 0 (length turns) turns s ≡ executions a (trace_from t turns s) % 2 ^ 64
 measures_positions t a n turns s many = harts_measured t a (range_with_len 0 n) turns s ∙ ap (λ m. m % 2 ^ 64) (all_positions t a n turns s many)

@@ -11,7 +11,7 @@ use Rattle.pn_types.specs.declared.limits.TheConstants.{MAX_BUDGET}
 use Rattle.pn_types.specs.declared.placed.Placed.{Placed}
 use Rattle.rv_word.specs.Plain.{Words}
 use Rattle.rv_mem.specs.Start.{program_of}
-use Rattle.rv_exec.specs.Run.{trace}
+use Rattle.rv_exec.specs.Run.{executions, trace}
 use Rattle.rv_exec.proofs.Runs.{length-run_from}
 use Rattle.rv_exec.specs.Start.{start, harts_from}
 use Rattle.tramp_spec.specs.Banks.{bank_len, first_slot}
@@ -30,7 +30,7 @@ use Rattle.machine.proofs.Readings.{readings_measure}
 use Rattle.machine.proofs.Replaying.{owns-append, replay-append}
 use Rattle.block_count.specs.declared.block_head.BlockHead.{BlockHead}
 use Rattle.block_count.specs.declared.counted_block.CountedBlock.{CountedBlock}
-use Rattle.block_count.specs.Counted.{passes_of, positions_at}
+use Rattle.block_count.specs.Counted.{passes_of}
 use Rattle.block_count.specs.Counters.{Counter, end_of, placed_of, plan_at}
 use Rattle.block_count.specs.Course.{Pace, arming, block_events, placing, sampling, turns_of}
 use Rattle.block_count.specs.Heads.{heads_of}
@@ -162,7 +162,7 @@ module _ (image : Image) (procs : List Proc) (budget : ℕ) (p : Pace) (program 
       let same = (erasure image p.harts budget es program legal).same in
       ap (λ (d : Core). length d.harts) (sym (course_is image procs budget p)) ∙ (same.many ∙ (length-run_from (program_of image) run (start image p.harts) ∙ first_harts image p.harts))
 
-  pub reads_positions : counter_read (settled image procs budget p) k ≡ positions_at k.point (trace image p.harts (run_of image procs budget p)) % 2 ^ 64
+  pub reads_positions : counter_read (settled image procs budget p) k ≡ executions k.point (trace image p.harts (run_of image procs budget p)) % 2 ^ 64
   unfolding sampled
   reads_positions =
       let i = placed_of k in
@@ -229,10 +229,10 @@ counts_are image procs budget p program few low =
     map_same (λ s. option_map (counter_read (settled image procs budget p)) s.counter) (passes_of (trace image p.harts (run_of image procs budget p))) (counted_blocks_of image procs) (λ s h. by s h s.counter refl)
   where
     by : (s : CountedBlock) → In s (counted_blocks_of image procs) → (o : Option Counter) → s.counter ≡ o → option_map (counter_read (settled image procs budget p)) s.counter ≡ passes_of (trace image p.harts (run_of image procs budget p)) s
-    by s h None e = ap (option_map (counter_read (settled image procs budget p))) e ∙ sym (ap (option_map (λ (k : Counter). positions_at s.head.at (trace image p.harts (run_of image procs budget p)) % 2 ^ 64)) e)
+    by s h None e = ap (option_map (counter_read (settled image procs budget p))) e ∙ sym (ap (option_map (λ (k : Counter). executions s.head.at (trace image p.harts (run_of image procs budget p)) % 2 ^ 64)) e)
     by s h (Some k) e =
         let point = count_heads (program_of image) (heads_of image procs) first_slot (tool_at (program_of image)) s h k e in
         let reads = reads_positions image procs budget p program few low k (counted_there (counted_blocks_of image procs) s k h e) in
         ap (option_map (counter_read (settled image procs budget p))) e
-        ∙ ap Some (reads ∙ ap (λ a. positions_at a (trace image p.harts (run_of image procs budget p)) % 2 ^ 64) point)
-        ∙ sym (ap (option_map (λ (j : Counter). positions_at s.head.at (trace image p.harts (run_of image procs budget p)) % 2 ^ 64)) e)
+        ∙ ap Some (reads ∙ ap (λ a. executions a (trace image p.harts (run_of image procs budget p)) % 2 ^ 64) point)
+        ∙ sym (ap (option_map (λ (j : Counter). executions s.head.at (trace image p.harts (run_of image procs budget p)) % 2 ^ 64)) e)

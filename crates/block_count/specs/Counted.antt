@@ -1,12 +1,11 @@
 -- What is counted of the blocks of a program: how often its own run, which the definitions run on the unpatched machine, passes
 -- them.
-use Rattle.std.specs.Prelude.{◌≡◌, ℕ, ◌<◌, ◌≤◌, ◌%◌, ◌^◌, ◌==◌, Option, Some, None, List, length, map}
-use Rattle.std.specs.List.{count_by}
+use Rattle.std.specs.Prelude.{◌≡◌, ℕ, ◌<◌, ◌≤◌, ◌%◌, ◌^◌, Option, Some, None, List, length, map}
 use Rattle.std.specs.Option.{option_map}
 use Rattle.pn_types.specs.declared.code.Proc.{Proc}
 use Rattle.pn_types.specs.declared.image.Image.{Image}
 use Rattle.rv_word.specs.Plain.{PlainHart, may_go}
-use Rattle.rv_exec.specs.Run.{Position, run, trace, IsLegal}
+use Rattle.rv_exec.specs.Run.{Position, executions, run, trace, IsLegal}
 use Rattle.machine.specs.Cores.{start_core}
 use Rattle.machine.specs.Replays.{Legal, owns, replay}
 use Rattle.machine.specs.Same.{SameProgram}
@@ -27,13 +26,9 @@ stop_of budget x = record { stop = hart_end x.stop (may_go (Some x) budget); pc 
 
 -- ---- counts
 
--- how many of these positions are at an address
-abbrev pub positions_at : ℕ → List Position → ℕ
-positions_at a trace = count_by (λ q. q.pc == a) trace
-
 -- the count of a block that has a counter
 abbrev pub passes_of : List Position → CountedBlock → Option ℕ
-passes_of trace s = option_map (λ _. positions_at s.head.at trace % 2 ^ 64) s.counter
+passes_of trace s = option_map (λ _. executions s.head.at trace % 2 ^ 64) s.counter
 
 -- ---- what is counted
 

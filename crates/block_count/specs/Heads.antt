@@ -4,27 +4,17 @@ use Rattle.std.specs.List.{list_any}
 use Rattle.std.specs.Option.{option_map_or}
 use Rattle.pn_types.specs.declared.code.Proc.{Proc}
 use Rattle.pn_types.specs.declared.image.Image.{Image}
-use Rattle.rv_word.specs.Names.{jump_of}
+use Rattle.rv_word.specs.Names.{ends_block, jump_of}
 use Rattle.rv_word.specs.Table.{decode_of}
-use Rattle.rv_word.specs.declared.instr.Instr.{Instr}
-use Rattle.rv_word.specs.declared.instr.Instr.TheVariants.{Jal, Jalr, Branch}
 use Rattle.rv_mem.specs.Start.{program_of}
 use Rattle.block_count.specs.declared.block_head.BlockHead.{BlockHead}
-
--- a block ends with a jump or a branch, and with a word that is no instruction
-abbrev pub is_end : Option Instr → Bool
-is_end None = true
-is_end (Some (Jal rd offset)) = true
-is_end (Some (Jalr rd rs1 offset)) = true
-is_end (Some (Branch op rs1 rs2 offset)) = true
-is_end (Some i) = false
 
 abbrev pub is_instr : ℕ → Bool
 is_instr w = is_some (decode_of w)
 
 -- the word at b jumps or branches to a, or a block ends with it and a is the address that follows
 abbrev pub opens : ℕ → ℕ → ℕ → Bool
-opens w b a = option_map_or (λ target. target == a) (jump_of (decode_of w) b) false || ((b + 4 == a) && is_end (decode_of w))
+opens w b a = option_map_or (λ target. target == a) (jump_of (decode_of w) b) false || ((b + 4 == a) && ends_block (decode_of w))
 
 -- one of these words does, the first of which stands at b
 abbrev pub is_opened : List ℕ → ℕ → ℕ → Bool

@@ -19,3 +19,4 @@ pub use counting::count;
 pub use counts::{CountFault, Counts, HartStop};
 pub use finding::heads;
 pub use lines::blocks_text;
+pub use text::text_words;

@@ -6,7 +6,7 @@ ghost use Rattle.pn_types.specs.Images.{IsImage};
 ghost use Rattle.rv_mem.specs.Start.{program_of};
 ghost use Rattle.block_count.specs.Heads.{begins, is_opened, opens};
 
-use crate::text::is_end;
+use crate::text::ends_block;
 use pn_types::{Image, NoMemory, Proc};
 use rv_word::jump_target;
 use std::alloc::Global;
@@ -34,7 +34,7 @@ fn mark_opened(marks: &mut [bool], at: u64, address: u64, word: u32)
     if let Some(target) = jump_target(word, address) {
         mark(marks, at, target);
     }
-    if is_end(word) {
+    if ends_block(word) {
         mark(marks, at, address + 4);
     }
 }

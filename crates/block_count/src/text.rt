@@ -4,9 +4,9 @@ ghost use Rattle.std.specs.Prelude.{◌≡◌, ◌+◌, ◌*◌, ◌<◌, ◌≤
 ghost use Rattle.std.specs.List.{AllByRecursion};
 ghost use Rattle.pn_types.specs.Images.{IsImage};
 ghost use Rattle.rv_mem.specs.Start.{program_of};
-ghost use Rattle.rv_word.specs.Names.{words_of};
+ghost use Rattle.rv_word.specs.Names.{ends_block, words_of};
 ghost use Rattle.rv_word.specs.Table.{decode_of};
-ghost use Rattle.block_count.specs.Heads.{is_end, is_instr};
+ghost use Rattle.block_count.specs.Heads.{is_instr};
 
 use pn_types::{Image, NoMemory, SEGMENTS_TO};
 use rv_word::{Instr, decode, split_word};
@@ -62,8 +62,8 @@ pub fn goes_on(marked: bool, word: u32) -> bool
 }
 
 /// Returns whether a block ends with the word.
-pub fn is_end(word: u32) -> bool
-    ensures { result ≡ is_end (decode_of word) }
+pub fn ends_block(word: u32) -> bool
+    ensures { result ≡ ends_block (decode_of word) }
 {
     matches!(
         decode(word),

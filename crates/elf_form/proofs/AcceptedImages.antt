@@ -1,4 +1,4 @@
--- Every image that a file means has what `IsAccepted` says, where a number of 32 bits counts its symbols.
+-- Every image that a file means has what `IsAcceptedImage` says, where a number of 32 bits counts its symbols.
 use Rattle.std.proofs.Common.{◌≡◌, ℕ, ◌+◌, ◌-◌, ◌%◌, ◌^◌, ◌<◌, ◌≤◌, true, Option, Some, None, Ok, List, [], ◌∷◌, length, refl, sym, ap, ◌∙◌, subst, arith, inr}
 use Rattle.std.proofs.lemmas.List.{length-map}
 use Rattle.std.specs.Prelude.{nat_lt}

@@ -9,7 +9,7 @@ use Rattle.std.proofs.lemmas.Slice.Eq.{bytes_eq-Decides}
 use Rattle.pn_text.specs.Numbers.{is_digit}
 use Rattle.pn_text.specs.Bytes.{is_letter, begins_name, is_name_byte, is_string_byte, is_focus_byte, begins_with}
 use Rattle.pn_text.specs.Signs.{signs, dollar_words, first_row}
-use Rattle.pn_text.specs.Tokens.{lexeme, small_number, number_at, string_at, focus_at, dollar_word_at, sign_at, other_at, or_fault, lexeme_at}
+use Rattle.pn_text.specs.Tokens.{lexeme, digits_value, number_at, string_at, focus_at, dollar_word_at, sign_at, other_at, or_fault, lexeme_at}
 use Rattle.pn_text.specs.declared.place.Place.{Place}
 use Rattle.pn_text.specs.declared.token.TokenKind.{TokenKind}
 use Rattle.pn_text.specs.declared.token.TokenKind.TheVariants as kind
@@ -64,7 +64,7 @@ number_stands : (byte : ℕ) (bytes : List ℕ) (found : Lexeme) → is_digit by
 unfolding number_at
 number_stands byte bytes found digit e =
     let len = prefix_len is_digit (byte ∷ bytes) in
-    let way = mapped (λ (n : ℕ). lexeme (kind.Number n) len) (small_number (take len (byte ∷ bytes))) found e in
+    let way = mapped (λ (n : ℕ). lexeme (kind.Number n) len) (digits_value (take len (byte ∷ bytes))) found e in
     let here : Stands (lexeme (kind.Number way.0) len) (byte ∷ bytes) = record { some = rw digit (omega arith); inside = prefix_len-le-length is_digit (byte ∷ bytes) } in
     rw (← way.2) here
 

@@ -9,7 +9,7 @@ use Rattle.pn_text.specs.Places.{first_place, after_bytes}
 use Rattle.pn_text.specs.Bytes.{is_letter, begins_name, is_name_byte, is_string_byte, is_focus_byte, begins_with}
 use Rattle.pn_text.specs.Blanks.{blank_len}
 use Rattle.pn_text.specs.Signs.{signs, dollar_words, first_row}
-use Rattle.pn_text.specs.Tokens.{lexeme, small_number, number_at, string_at, focus_at, dollar_word_at, sign_at, other_at, or_fault, lexeme_at}
+use Rattle.pn_text.specs.Tokens.{lexeme, digits_value, number_at, string_at, focus_at, dollar_word_at, sign_at, other_at, or_fault, lexeme_at}
 use Rattle.pn_text.specs.Scans.{Rest, Scan, rest_after, after_blanks, token_at, scan_on, scan_in, scan, tokens_of}
 use Rattle.pn_text.specs.Words.{word_as, word_of, words_of, without_quotes, is_word}
 use Rattle.pn_text.specs.declared.place.Place.{Place}
@@ -59,7 +59,7 @@ number_word : (text more : List ℕ) (found : Lexeme) → number_at text ≡ Som
 unfolding number_at
 number_word text more found e =
     let len = prefix_len is_digit text in
-    let way = mapped (λ (n : ℕ). lexeme (kind.Number n) len) (small_number (take len text)) found e in
+    let way = mapped (λ (n : ℕ). lexeme (kind.Number n) len) (digits_value (take len text)) found e in
     let here : is_word (word_as (lexeme (kind.Number way.0) len).kind more) ≡ true = most_read 2147483647 way.0 (decimal_from 0 (take len text)) way.1 in
     rw (← way.2) here
 

@@ -17,12 +17,12 @@ abbrev pub lexeme : TokenKind → ℕ → Lexeme
 lexeme kind len = record { kind = kind; len = len }
 
 -- the number of these digits, if it is small enough
-abbrev pub small_number : List ℕ → Option ℕ
-small_number digits = option_and_then (at_most 2147483647) (decimal_from 0 digits)
+abbrev pub digits_value : List ℕ → Option ℕ
+digits_value digits = option_and_then (at_most 2147483647) (decimal_from 0 digits)
 
 -- all digits that stand first, and their number
 unfoldable pub number_at : List ℕ → Option Lexeme
-number_at text = option_map (λ n. lexeme (kind.Number n) (prefix_len is_digit text)) (small_number (take (prefix_len is_digit text) text))
+number_at text = option_map (λ n. lexeme (kind.Number n) (prefix_len is_digit text)) (digits_value (take (prefix_len is_digit text) text))
 
 -- a string whose first quote stands before these bytes: a second comes before an LF and the end
 unfoldable pub string_at : List ℕ → Option Lexeme

@@ -6,7 +6,7 @@ ghost use Rattle.std.specs.List.{prefix_len};
 ghost use Rattle.pn_text.specs.Numbers.{is_digit};
 ghost use Rattle.pn_text.specs.Bytes.{is_letter, begins_name, is_name_byte, is_string_byte, is_focus_byte, is_white_space, begins_with};
 ghost use Rattle.pn_text.specs.Signs.{double_signs, single_signs, with_texts, dollar_words, first_row, signs};
-ghost use Rattle.pn_text.specs.Tokens.{small_number, number_at, string_at, focus_at, dollar_word_at, sign_at, other_at, lexeme_at};
+ghost use Rattle.pn_text.specs.Tokens.{digits_value, number_at, string_at, focus_at, dollar_word_at, sign_at, other_at, lexeme_at};
 
 use crate::place::Place;
 use crate::token::{LexFault, Sign, TokenKind};
@@ -22,8 +22,8 @@ pub(crate) struct Lexeme {
 const MOST: u64 = 2_147_483_647;
 
 /// The number of the digits, unless it is above the most.
-fn small_number(digits: &[u8]) -> Option<u32>
-    ensures { result ≡ small_number digits.now }
+fn digits_value(digits: &[u8]) -> Option<u32>
+    ensures { result ≡ digits_value digits.now }
 {
     let mut value = 0u64;
     for byte in digits {
@@ -114,7 +114,7 @@ fn number(text: &[u8]) -> Option<Lexeme>
     ensures { result ≡ number_at text.now }
 {
     let len = digit_len(text);
-    let value = small_number(&text[..len])?;
+    let value = digits_value(&text[..len])?;
     Some(Lexeme {
         kind: TokenKind::Number(value),
         len,

@@ -1,5 +1,5 @@
 -- Runs of the unpatched program: lists of hart numbers, each of which takes a turn.
-use Rattle.std.specs.Prelude.{ℕ, ◌≡◌, false, IsTrue, Option, Some, None, List, [], ◌∷◌, slice_get}
+use Rattle.std.specs.Prelude.{ℕ, ◌≡◌, ◌==◌, false, IsTrue, Option, Some, None, List, [], ◌∷◌, slice_get, count_by}
 use Rattle.pn_types.specs.declared.image.Image.{Image}
 use Rattle.rv_word.specs.Registers.{arguments_of}
 use Rattle.rv_word.specs.Plain.{Words, PlainHart, Plain, plain, can}
@@ -49,3 +49,7 @@ trace_from t (h ∷ hs) s = position_of h (slice_get s.harts h) (trace_from t hs
 -- The trace of an image's run.
 abbrev pub trace : Image → ℕ → List ℕ → List Position
 trace image n turns = trace_from (program_of image) turns (start image n)
+
+-- how many of these positions are at an address
+abbrev pub executions : ℕ → List Position → ℕ
+executions a trace = count_by (λ q. q.pc == a) trace

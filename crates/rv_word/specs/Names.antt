@@ -1,5 +1,5 @@
 -- What a word names and where it leads.
-use Rattle.std.specs.Prelude.{ℕ, zero, suc, ◌+◌, ◌%◌, ◌^◌, ◌==◌, ◌&&◌, ◌||◌, not, Bool, false, if◌then◌else◌, Option, Some, None, List, [], ◌∷◌, length, drop, take, ◌/◌}
+use Rattle.std.specs.Prelude.{ℕ, zero, suc, ◌+◌, ◌%◌, ◌^◌, ◌==◌, ◌&&◌, ◌||◌, not, Bool, true, false, if◌then◌else◌, Option, Some, None, List, [], ◌∷◌, length, drop, take, ◌/◌}
 use Rattle.std.specs.Int.{w32, from_le_bytes}
 use Rattle.std.specs.Option.{option_map_or}
 use Rattle.rv_word.specs.InstrRegisters.{registers_of}
@@ -27,6 +27,14 @@ target_of i at = None
 abbrev pub jump_of : Option Instr → ℕ → Option ℕ
 jump_of None at = None
 jump_of (Some i) at = target_of i at
+
+-- a basic block ends with a jump or a branch, and with a word that is no instruction
+abbrev pub ends_block : Option Instr → Bool
+ends_block None = true
+ends_block (Some (Jal rd offset)) = true
+ends_block (Some (Jalr rd rs1 offset)) = true
+ends_block (Some (Branch op rs1 rs2 offset)) = true
+ends_block (Some i) = false
 
 abbrev pub links : ℕ → Bool
 links rd = (rd == 1) || (rd == 5)

@@ -1,6 +1,6 @@
 use Rattle.std.proofs.Common.{◌∙◌, sym}
 use Rattle.pn_text.proofs.Growing.{none_at}
-use Rattle.pn_text.proofs.lexeme.small_number.Goals as goal
+use Rattle.pn_text.proofs.lexeme.digits_value.Goals as goal
 
 pub returns-then-value-gt-MOST : goal.returns-then-value-gt-MOST
 returns-then-value-gt-MOST c =
