@@ -33,7 +33,7 @@ use refusals::{ConfFault, ConfKind, Fault, Refusal, directive_kind};
 use report::report;
 use resource_tree::Tree;
 use std::alloc::Global;
-use whole_run::run_parts;
+use whole_run::{Progress, run_parts};
 
 /// The greatest length of directives in bytes.
 pub const DIRECTIVES_LIMIT: u64 = 1_048_576;
@@ -102,13 +102,18 @@ fn directed(
 }
 
 /// Returns what is due of a session in this order.
-fn direct_prepared(alloc: Global, prepared: Prepared, order: TurnOrder) -> Result<Texts, Refusal>
+fn direct_prepared<P: Progress>(
+    alloc: Global,
+    prepared: Prepared,
+    order: TurnOrder,
+    progress: &P,
+) -> Result<Texts, Refusal>
     requires given { AreGiven prepared.inputs }
     requires skipped { prepared.skipped ≡ skipped_of prepared.inputs.image }
     requires order { IsOrderInRange order }
     ensures { Comes result (IsSession (IsInOrder order) report_alone prepared.inputs) }
 {
-    match run_parts(alloc, prepared.inputs, order.seed, order.quantum) {
+    match run_parts(alloc, prepared.inputs, order.seed, order.quantum, progress) {
         Ok(parts) => {
             let text = report(alloc, &parts, prepared.skipped)?;
             Ok(Texts::output(alloc, text))
@@ -118,11 +123,12 @@ fn direct_prepared(alloc: Global, prepared: Prepared, order: TurnOrder) -> Resul
 }
 
 /// Returns what is due of a session of the image with what was found of it.
-fn direct_found(
+fn direct_found<P: Progress>(
     alloc: Global,
     request: &DirectRequest<'_>,
     image: Image,
     found: Found,
+    progress: &P,
 ) -> Result<Texts, Refusal>
     requires ranges { HasRanges (direct (asked_direct request.now)) }
     requires skipped { found.skipped ≡ skipped_of image }
@@ -130,15 +136,16 @@ fn direct_found(
     ensures { Comes result (IsSession (IsInOrder request.now.order) report_alone (inputs_with image found request.now.session.settings)) }
 {
     let prepared = prepare_found(alloc, image, found, request.session.settings)?;
-    direct_prepared(alloc, prepared, request.order)
+    direct_prepared(alloc, prepared, request.order, progress)
 }
 
 /// Returns what is due of a run of the image under a configuration.
-fn run_directed(
+fn run_directed<P: Progress>(
     alloc: Global,
     request: &DirectRequest<'_>,
     image: Image,
     conf: &Conf,
+    progress: &P,
 ) -> Result<Texts, Refusal>
     requires ranges { HasRanges (direct (asked_direct request.now)) }
     requires image { IsImage image }
@@ -150,16 +157,17 @@ fn run_directed(
 {
     let harts = request.session.settings.harts;
     let found = find(alloc, &image, harts, conf)?;
-    direct_found(alloc, request, image, found)
+    direct_found(alloc, request, image, found, progress)
 }
 
 /// Returns what is due of a program and a configuration that was checked, under directives.
-fn follow_directions<F: Files>(
+fn follow_directions<F: Files, P: Progress>(
     alloc: Global,
     request: &DirectRequest<'_>,
     inputs: Inputs,
     tree: &Tree,
     files: &mut F,
+    progress: &P,
 ) -> Result<Texts, Refusal>
     requires ranges { HasRanges (direct (asked_direct request.now)) }
     requires image { IsImage inputs.image }
@@ -174,7 +182,7 @@ fn follow_directions<F: Files>(
 {
     let directives = read_directions(alloc, files, request.directives)?;
     let conf = directed(alloc, &inputs.conf, tree, directives.as_slice())?;
-    run_directed(alloc, request, inputs.image, &conf)
+    run_directed(alloc, request, inputs.image, &conf, progress)
 }
 
 /// Returns what is due for `direct`.
@@ -182,10 +190,11 @@ fn follow_directions<F: Files>(
 /// # Errors
 ///
 /// `Refusal::NoMemory` where memory runs out, or the first fault that is due.
-pub fn direct<F: Files>(
+pub fn direct<F: Files, P: Progress>(
     alloc: Global,
     request: &DirectRequest<'_>,
     files: &mut F,
+    progress: &P,
 ) -> Result<Texts, Refusal>
     requires ranges { HasRanges (direct (asked_direct request.now)) }
     ensures due { Comes result
@@ -195,5 +204,5 @@ pub fn direct<F: Files>(
     let session = request.session;
     let inputs = read_inputs(alloc, files, session.program, session.conf)?;
     let found = find(alloc, &inputs.image, session.settings.harts, &inputs.conf)?;
-    follow_directions(alloc, request, inputs, &found.tree, files)
+    follow_directions(alloc, request, inputs, &found.tree, files, progress)
 }

@@ -26,17 +26,22 @@ use pn_types::Image;
 use quanta_log::write;
 use refusals::{Fault, Refusal};
 use std::alloc::Global;
-use whole_run::{ReplayFault, replay_run};
+use whole_run::{Progress, ReplayFault, replay_run};
 
 /// Returns what is due of a session along a log's quanta.
-fn replay_prepared(alloc: Global, log: &Log, prepared: Prepared) -> Result<Texts, Refusal>
+fn replay_prepared<P: Progress>(
+    alloc: Global,
+    log: &Log,
+    prepared: Prepared,
+    progress: &P,
+) -> Result<Texts, Refusal>
     requires given { AreGiven prepared.inputs }
     requires skipped { prepared.skipped ≡ skipped_of prepared.inputs.image }
     requires spelled { CanSpell version.Two prepared.inputs.settings log.now.quanta }
     ensures { Comes result (IsReplayWith log.now prepared.inputs) }
 {
     let quanta = log.quanta.as_slice();
-    match replay_run(alloc, prepared.inputs, quanta, prepared.skipped) {
+    match replay_run(alloc, prepared.inputs, quanta, prepared.skipped, progress) {
         Ok(report) => Ok(Texts::output(alloc, report)),
         Err(ReplayFault::NotOpened(fault)) => Err(unopened(fault)),
         Err(ReplayFault::Misfit(misfit)) => Err(Refusal::Fault(misfit_fault(log, misfit))),
@@ -44,18 +49,29 @@ fn replay_prepared(alloc: Global, log: &Log, prepared: Prepared) -> Result<Texts
 }
 
 /// Returns what is due of a run along a log's quanta of the image with what was found of it.
-fn replay_found(alloc: Global, log: &Log, image: Image, found: Found) -> Result<Texts, Refusal>
+fn replay_found<P: Progress>(
+    alloc: Global,
+    log: &Log,
+    image: Image,
+    found: Found,
+    progress: &P,
+) -> Result<Texts, Refusal>
     requires skipped { found.skipped ≡ skipped_of image }
     requires spelled { CanSpell version.Two log.now.settings log.now.quanta }
     requires runs { CanRun image log.now.settings.harts found }
     ensures { Comes result (IsReplay log.now image found) }
 {
     let prepared = prepare_found(alloc, image, found, log.settings)?;
-    replay_prepared(alloc, log, prepared)
+    replay_prepared(alloc, log, prepared, progress)
 }
 
 /// Returns what is due of a program and a configuration along a log's quanta.
-fn replay_log(alloc: Global, log: &Log, inputs: Inputs) -> Result<Texts, Refusal>
+fn replay_log<P: Progress>(
+    alloc: Global,
+    log: &Log,
+    inputs: Inputs,
+    progress: &P,
+) -> Result<Texts, Refusal>
     requires spelled { CanSpell version.Two log.now.settings log.now.quanta }
     requires image { IsImage inputs.image }
     requires unscratched { IsUnscratched inputs.image }
@@ -65,7 +81,7 @@ fn replay_log(alloc: Global, log: &Log, inputs: Inputs) -> Result<Texts, Refusal
     ensures { Comes result (IsReplayOf log.now inputs) }
 {
     let found = find(alloc, &inputs.image, log.settings.harts, &inputs.conf)?;
-    replay_found(alloc, log, inputs.image, found)
+    replay_found(alloc, log, inputs.image, found, progress)
 }
 
 /// Returns what is due for `replay`.
@@ -73,10 +89,11 @@ fn replay_log(alloc: Global, log: &Log, inputs: Inputs) -> Result<Texts, Refusal
 /// # Errors
 ///
 /// `Refusal::NoMemory` where memory runs out, or the first fault that is due.
-pub fn replay<F: Files>(
+pub fn replay<F: Files, P: Progress>(
     alloc: Global,
     request: &ReplayRequest<'_>,
     files: &mut F,
+    progress: &P,
 ) -> Result<Texts, Refusal>
     ensures due { Comes result
         (IsReplayDue (asked_replay request.now) (reads (F.holds files.old) (F.faults files.old) (F.faults files.new))) }
@@ -84,7 +101,7 @@ pub fn replay<F: Files>(
 {
     let inputs = read_inputs(alloc, files, request.program, request.conf)?;
     let log = read_log(alloc, files, request.log)?;
-    replay_log(alloc, &log, inputs)
+    replay_log(alloc, &log, inputs, progress)
 }
 
 /// Returns what is due for `relog`.

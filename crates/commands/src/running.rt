@@ -17,7 +17,7 @@ use outside::Files;
 use pn_types::Seq;
 use refusals::Refusal;
 use std::alloc::Global;
-use whole_run::{Course, Recorded, record_run};
+use whole_run::{Course, Progress, Recorded, record_run};
 
 /// Returns the texts of what is left of a run.
 pub fn texts_of(recorded: Recorded) -> Texts
@@ -30,7 +30,12 @@ pub fn texts_of(recorded: Recorded) -> Texts
 }
 
 /// Returns what is due of a session in this order.
-fn run_prepared(alloc: Global, prepared: Prepared, order: TurnOrder) -> Result<Texts, Refusal>
+fn run_prepared<P: Progress>(
+    alloc: Global,
+    prepared: Prepared,
+    order: TurnOrder,
+    progress: &P,
+) -> Result<Texts, Refusal>
     requires given { AreGiven prepared.inputs }
     requires skipped { prepared.skipped ≡ skipped_of prepared.inputs.image }
     requires order { IsOrderInRange order }
@@ -41,7 +46,7 @@ fn run_prepared(alloc: Global, prepared: Prepared, order: TurnOrder) -> Result<T
         turns: order.quantum,
         skipped: prepared.skipped,
     };
-    match record_run(alloc, prepared.inputs, &course) {
+    match record_run(alloc, prepared.inputs, &course, progress) {
         Ok(recorded) => Ok(texts_of(recorded)),
         Err(fault) => Err(unopened(fault)),
     }
@@ -52,15 +57,16 @@ fn run_prepared(alloc: Global, prepared: Prepared, order: TurnOrder) -> Result<T
 /// # Errors
 ///
 /// `Refusal::NoMemory` where memory runs out, or the first fault that is due.
-pub fn run<F: Files>(
+pub fn run<F: Files, P: Progress>(
     alloc: Global,
     request: &RunRequest<'_>,
     files: &mut F,
+    progress: &P,
 ) -> Result<Texts, Refusal>
     requires ranges { HasRanges (run (asked_run request.now)) }
     ensures due { Comes result (IsRunDue (asked_run request.now) (reads (F.holds files.old) (F.faults files.old) (F.faults files.new))) }
     ensures looks { Looks F.holds F.faults files.old files.new result }
 {
     let prepared = prepare(alloc, files, &request.session)?;
-    run_prepared(alloc, prepared, request.order)
+    run_prepared(alloc, prepared, request.order, progress)
 }

@@ -21,9 +21,10 @@ use refusals::Refusal;
 use std::alloc::Global;
 use std::sync::Wait;
 use std::thread::Threads;
+use whole_run::Progress;
 
 /// Returns what is due of a session that a team shares.
-fn share_prepared<R: Threads + Wait + Sync, G: Gate + Sync>(
+fn share_prepared<R: Threads + Wait + Sync, G: Gate + Progress + Sync>(
     rt: &R,
     alloc: Global,
     prepared: Prepared,
@@ -52,7 +53,7 @@ fn share_prepared<R: Threads + Wait + Sync, G: Gate + Sync>(
 /// # Errors
 ///
 /// `Refusal::NoMemory` where memory runs out, also for one worker alone, or the first fault that is due.
-pub fn live<F: Files, R: Threads + Wait + Sync, G: Gate + Sync>(
+pub fn live<F: Files, R: Threads + Wait + Sync, G: Gate + Progress + Sync>(
     rt: &R,
     alloc: Global,
     request: &LiveRequest<'_>,

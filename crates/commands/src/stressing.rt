@@ -15,7 +15,7 @@ use crate::opening::unopened;
 use crate::preparing::{Prepared, prepare};
 use crate::texts::Texts;
 use command_words::{SessionRequest, StressRequest, TurnOrder};
-use outside::SureFiles;
+use outside::{OpenGate, SureFiles};
 use pn_types::{NoMemory, Settings, Start};
 use refusals::Refusal;
 use session::Inputs;
@@ -69,7 +69,7 @@ fn sum_up(alloc: Global, inputs: Inputs, order: TurnOrder, procs: u32) -> Result
     requires order { IsOrderInRange order }
     ensures { Comes result (IsSession (IsInOrder order) (summary_of procs) inputs) }
 {
-    match run_parts(alloc, inputs, order.seed, order.quantum) {
+    match run_parts(alloc, inputs, order.seed, order.quantum, &OpenGate) {
         Ok(parts) => {
             let line = summary_text(alloc, procs, &parts)?;
             Ok(Texts::output(alloc, line))

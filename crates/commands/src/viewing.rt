@@ -19,9 +19,10 @@ use std::alloc::Global;
 use std::sync::Wait;
 use std::thread::Threads;
 use visi_run::{ViewedCourse, view_run};
+use whole_run::Progress;
 
 /// Returns what is due of a session in this order before `views` views.
-fn view_prepared<R: Threads + Wait + Sync, G: Gate + Sync>(
+fn view_prepared<R: Threads + Wait + Sync, G: Gate + Progress + Sync>(
     rt: &R,
     alloc: Global,
     inputs: Inputs,
@@ -50,7 +51,7 @@ fn view_prepared<R: Threads + Wait + Sync, G: Gate + Sync>(
 /// # Errors
 ///
 /// `Refusal::NoMemory` where memory runs out, also for one view alone, or the first fault that is due.
-pub fn visi<F: Files, R: Threads + Wait + Sync, G: Gate + Sync>(
+pub fn visi<F: Files, R: Threads + Wait + Sync, G: Gate + Progress + Sync>(
     rt: &R,
     alloc: Global,
     request: &VisiRequest<'_>,

@@ -16,12 +16,14 @@ use refusals::{Fault, Refusal};
 use std::alloc::Global;
 use std::sync::Wait;
 use std::thread::Threads;
+use whole_run::Progress;
 
 /// Returns what is due for a request that begins no threads.
-fn answer_request<F: Files>(
+fn answer_request<F: Files, P: Progress>(
     alloc: Global,
     request: &Request<'_>,
     files: &mut F,
+    progress: &P,
 ) -> Result<Texts, Refusal>
     requires ranges { HasRanges (asked request.now) }
     requires other { IsUnthreaded (asked request.now) }
@@ -29,9 +31,9 @@ fn answer_request<F: Files>(
     ensures looks { Looks F.holds F.faults files.old files.new result }
 {
     match request {
-        Request::Run(request) => run(alloc, request, files),
+        Request::Run(request) => run(alloc, request, files, progress),
         Request::Live(_) | Request::Visi(_) => unreachable!(),
-        Request::Replay(request) => replay(alloc, request, files),
+        Request::Replay(request) => replay(alloc, request, files, progress),
         Request::Plan(request) => plan(alloc, request, files),
         Request::Points(program) => points(alloc, program, files),
         Request::Asm(text) => asm(alloc, text, files),
@@ -39,29 +41,30 @@ fn answer_request<F: Files>(
         Request::Stress(request) => stress(alloc, *request),
         Request::Blocks(request) => blocks(alloc, request, files),
         Request::Advise(report) => advise(alloc, report, files),
-        Request::Direct(request) => direct(alloc, request, files),
+        Request::Direct(request) => direct(alloc, request, files, progress),
     }
 }
 
 /// Returns what is due for words that begin no threads.
-pub(crate) fn answer<F: Files>(
+pub(crate) fn answer<F: Files, P: Progress>(
     alloc: Global,
     words: &[String],
     files: &mut F,
+    progress: &P,
 ) -> Result<Texts, Refusal>
     requires { begins_threaded (map string_bytes words.now) ≡ false }
     ensures due { Comes result (IsDue (map string_bytes words.now) (reads (F.holds files.old) (F.faults files.old) (F.faults files.new))) }
     ensures looks { Looks F.holds F.faults files.old files.new result }
 {
     match read_request(alloc, words) {
-        Ok(request) => answer_request(alloc, &request, files),
+        Ok(request) => answer_request(alloc, &request, files, progress),
         Err(WordFault::Usage) => Err(Refusal::Fault(Fault::Usage)),
         Err(WordFault::NoMemory) => Err(Refusal::NoMemory),
     }
 }
 
 /// Returns what is due for words, of which some begin threads.
-pub(crate) fn answer_threaded<F: Files, R: Threads + Wait + Sync, G: Gate + Sync>(
+pub(crate) fn answer_threaded<F: Files, R: Threads + Wait + Sync, G: Gate + Progress + Sync>(
     rt: &R,
     alloc: Global,
     words: &[String],
@@ -74,7 +77,7 @@ pub(crate) fn answer_threaded<F: Files, R: Threads + Wait + Sync, G: Gate + Sync
     match read_request(alloc, words) {
         Ok(Request::Live(request)) => live(rt, alloc, &request, files, gate),
         Ok(Request::Visi(request)) => visi(rt, alloc, &request, files, gate),
-        Ok(request) => answer_request(alloc, &request, files),
+        Ok(request) => answer_request(alloc, &request, files, gate),
         Err(WordFault::Usage) => Err(Refusal::Fault(Fault::Usage)),
         Err(WordFault::NoMemory) => Err(Refusal::NoMemory),
     }

@@ -14,3 +14,4 @@ pub use laws::{one_owed, owed_is_honest, session_is_readable};
 pub use program::{Words, run_program};
 pub use refusals::{ConfFault, ConfKind, Fault, LogCause, ProgramFault, faults_text};
 pub use top::{paradyn, serve};
+pub use whole_run::Progress;

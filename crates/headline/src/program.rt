@@ -11,6 +11,7 @@ use std::alloc::Global;
 use std::process::ExitCode;
 use std::sync::Wait;
 use std::thread::Threads;
+use whole_run::Progress;
 
 /// The words of the command line without the program's name, as far as they could be read.
 #[derive(Drop)]
@@ -24,7 +25,7 @@ pub enum Words {
 }
 
 /// Does what `paradyn` does, and proves what its texts tell.
-fn tell<R: Threads + Wait + Sync, F: Files, K: Sink, L: Sink, G: Gate + Sync>(
+fn tell<R: Threads + Wait + Sync, F: Files, K: Sink, L: Sink, G: Gate + Progress + Sync>(
     rt: &R,
     alloc: Global,
     words: &[String],
@@ -42,7 +43,7 @@ fn tell<R: Threads + Wait + Sync, F: Files, K: Sink, L: Sink, G: Gate + Sync>(
 
 /// Serves the words of a command line, and returns the status with which the program ends. With status 0 the texts that the sinks
 /// gained tell of the files that the words name what the headline says of the command.
-pub fn run_program<R: Threads + Wait + Sync, F: Files, K: Sink, L: Sink, G: Gate + Sync>(
+pub fn run_program<R: Threads + Wait + Sync, F: Files, K: Sink, L: Sink, G: Gate + Progress + Sync>(
     rt: &R,
     alloc: Global,
     words: &Words,

@@ -18,6 +18,7 @@ use refusals::{Fault, Refusal, faults_text};
 use std::alloc::Global;
 use std::sync::Wait;
 use std::thread::Threads;
+use whole_run::Progress;
 
 /// A status with the bytes that go with it.
 #[derive(Drop)]
@@ -73,24 +74,26 @@ fn give<K: Sink, L: Sink>(
 }
 
 /// Does what [`paradyn`] does, for words that begin with neither `live` nor `visi`. It never waits.
-pub fn serve<F: Files, K: Sink, L: Sink>(
+pub fn serve<F: Files, K: Sink, L: Sink, P: Progress>(
     alloc: Global,
     words: &[String],
     files: &mut F,
     out: &mut K,
     log: &mut L,
+    progress: &P,
 ) -> u8
     requires { begins_threaded (map string_bytes words.now) ≡ false }
     ensures { IsServedCall F.holds F.faults files.old files.new
         (map string_bytes words.now) K.has K.faults out.old out.new L.has L.faults log.old log.new result }
 {
     one_owed::<F>();
-    let answered = answer(alloc, words, files);
+    let answered = answer(alloc, words, files, progress);
     give(alloc, answered, out, log)
 }
 
 /// Does all that the program does: takes the words of the command line without the program's name, reads the files that they name,
-/// and writes to the output and the log. Returns the program's status:
+/// and writes to the output and the log. Each quantum is told of to `gate`, which may make workers wait and changes nothing else.
+/// Returns the program's status:
 ///
 /// - 0: the output gained what was asked for: the report of the program's whole run in the order of a seed, of one that workers share
 ///   or of one along the quanta of a log, the plan of a metric, the program's points, the ELF file of an assembly text, a log as it is
@@ -109,7 +112,7 @@ pub fn serve<F: Files, K: Sink, L: Sink>(
 /// - 11: more basic blocks have a first word that can be moved than a hart has slots, and the output gained the line of that fault.
 /// - 12: the directives are faulty, and the output gained the line of that fault.
 /// - 13: the report is faulty, and the output gained the line of that fault.
-pub fn paradyn<R: Threads + Wait + Sync, F: Files, K: Sink, L: Sink, G: Gate + Sync>(
+pub fn paradyn<R: Threads + Wait + Sync, F: Files, K: Sink, L: Sink, G: Gate + Progress + Sync>(
     rt: &R,
     alloc: Global,
     words: &[String],
@@ -126,6 +129,6 @@ pub fn paradyn<R: Threads + Wait + Sync, F: Files, K: Sink, L: Sink, G: Gate + S
         let answered = answer_threaded(rt, alloc, words, files, gate);
         give(alloc, answered, out, log)
     } else {
-        serve(alloc, words, files, out, log)
+        serve(alloc, words, files, out, log, gate)
     }
 }

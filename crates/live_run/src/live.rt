@@ -22,6 +22,7 @@ use std::marker::Brand;
 use std::sync::Wait;
 use std::thread;
 use std::thread::Threads;
+use whole_run::Progress;
 
 /// Lets a team of workers share a session that just began, each in a thread, or one after another where no thread can be made.
 /// Returns the session after all its quanta, which isn't closed.
@@ -29,7 +30,7 @@ use std::thread::Threads;
 /// # Errors
 ///
 /// `NoMemory` where memory runs out, also for one worker alone.
-pub fn run_live<R: Threads + Wait + Sync, G: Gate + Sync>(
+pub fn run_live<R: Threads + Wait + Sync, G: Gate + Progress + Sync>(
     rt: &R,
     alloc: Global,
     session: Session,
@@ -54,7 +55,7 @@ pub fn run_live<R: Threads + Wait + Sync, G: Gate + Sync>(
 /// # Errors
 ///
 /// `NoMemory` where memory runs out, also for one worker alone.
-fn run_named<I: RunName + Send + Sync, R: Threads + Wait + Sync, G: Gate + Sync>(
+fn run_named<I: RunName + Send + Sync, R: Threads + Wait + Sync, G: Gate + Progress + Sync>(
     rt: &R,
     alloc: Global,
     word: Word,
@@ -85,7 +86,7 @@ fn run_named<I: RunName + Send + Sync, R: Threads + Wait + Sync, G: Gate + Sync>
 /// # Errors
 ///
 /// `NoMemory` where memory runs out, also for one worker alone.
-fn serve_all<I: RunName + Send + Sync, R: Threads + Wait + Sync, G: Gate + Sync>(
+fn serve_all<I: RunName + Send + Sync, R: Threads + Wait + Sync, G: Gate + Progress + Sync>(
     rt: &R,
     alloc: Global,
     shared: &Shared<I>,

@@ -14,7 +14,7 @@ use session::{Inputs, Session, StartFault};
 use std::alloc::Global;
 use std::sync::Wait;
 use std::thread::Threads;
-use whole_run::{Recorded, record_end};
+use whole_run::{Progress, Recorded, record_end};
 
 /// Who runs a program, and what a report says of the program beside the run.
 #[derive(Clone, Copy, PartialEq, Eq, Drop)]
@@ -30,7 +30,7 @@ pub struct LiveCourse {
 /// # Errors
 ///
 /// `NoMemory` where memory runs out, also for one worker alone.
-fn live_on<R: Threads + Wait + Sync, G: Gate + Sync>(
+fn live_on<R: Threads + Wait + Sync, G: Gate + Progress + Sync>(
     rt: &R,
     alloc: Global,
     settings: &Settings,
@@ -56,7 +56,7 @@ fn live_on<R: Threads + Wait + Sync, G: Gate + Sync>(
 /// # Errors
 ///
 /// `NoMemory` where memory runs out, also for one worker alone; `BadPick` with the first wish at tick 0 that is refused, if one is.
-pub fn record_live<R: Threads + Wait + Sync, G: Gate + Sync>(
+pub fn record_live<R: Threads + Wait + Sync, G: Gate + Progress + Sync>(
     rt: &R,
     alloc: Global,
     inputs: Inputs,

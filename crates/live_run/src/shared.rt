@@ -18,6 +18,7 @@ use session::Session;
 use std::alloc::Global;
 use std::marker::PhantomData;
 use std::sync::{Mutex, Wait};
+use whole_run::Progress;
 
 /// A session that workers share: it lies behind a lock, and each hold of the lock is one quantum.
 #[derive(Drop)]
@@ -56,18 +57,19 @@ impl<I: RunName> Shared<I> {
         Ok((Shared { word, lock, answer }, seats))
     }
 
-    /// Lets the hart take a quantum of at most `turns` turns for the seat's worker, once the lock is got. Returns the receipt,
-    /// which is appended to the seat's others, and none where the hart can't take a quantum, which the seat then notes.
+    /// Lets the hart take a quantum of at most `turns` turns for the seat's worker, once the lock is got, and tells of it. Returns the
+    /// receipt, which is appended to the seat's others, and none where the hart can't take a quantum, which the seat then notes.
     ///
     /// # Errors
     ///
     /// `NoMemory` where memory runs out. Then nothing has changed.
-    pub fn quantum<R: Wait>(
+    pub fn quantum<R: Wait, P: Progress>(
         &self,
         rt: &R,
         seat: &mut Seat<I>,
         hart: u32,
         turns: u32,
+        progress: &P,
     ) -> Result<Option<Receipt>, NoMemory>
         requires hart { hart < I.inputs.settings.harts }
         requires turns { (1 ≤ turns) × (turns ≤ MAX_QUANTUM) }
@@ -79,7 +81,10 @@ impl<I: RunName> Shared<I> {
         ensures none { IfOk result (λ answer. IfNone answer (seat.new ≡ record seat.old { noted = seat.old.noted ++ hart ∷ [] })) }
         ensures failed { OnErr result (seat.new ≡ seat.old) }
     {
-        self.lock.lock(rt).quantum(&self.word, seat, hart, turns)
+        let mut locked = self.lock.lock(rt);
+        let answer = locked.quantum(&self.word, seat, hart, turns)?;
+        progress.see(locked.session());
+        Ok(answer)
     }
 
     /// Ends the sharing: takes all seats, by the workers' numbers, and returns the session and the receipts of each worker. The

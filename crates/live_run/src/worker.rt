@@ -13,6 +13,7 @@ use pn_types::{MAX_QUANTUM, NoMemory};
 use std::alloc::Global;
 use std::collections::VecDeque;
 use std::sync::Wait;
+use whole_run::Progress;
 
 /// Does the work of one worker: it takes quanta of its harts in turn, passes the gate before each, and leaves a hart that is
 /// halted. Returns its seat when it has left them all.
@@ -20,7 +21,7 @@ use std::sync::Wait;
 /// # Errors
 ///
 /// `NoMemory` where memory runs out.
-pub fn serve<I: RunName, R: Wait, G: Gate>(
+pub fn serve<I: RunName, R: Wait, G: Gate + Progress>(
     rt: &R,
     alloc: Global,
     shared: &Shared<I>,
@@ -43,7 +44,7 @@ pub fn serve<I: RunName, R: Wait, G: Gate>(
         };
         gate.pass(worker, calls);
         calls = calls.wrapping_add(1);
-        match shared.quantum(rt, &mut seat, hart, team.turns)? {
+        match shared.quantum(rt, &mut seat, hart, team.turns, gate)? {
             Some(_) => waits.push_back(hart)?,
             None => {}
         }

@@ -40,6 +40,7 @@ use resource_tree::Tree;
 use session_spec::LatestSample;
 use std::alloc::Global;
 use std::marker::Model;
+use w3_search::Node;
 
 /// The run of a program with instruments, quantum by quantum.
 pub struct Session {
@@ -166,6 +167,13 @@ impl Session {
         ensures { result ≡ (state_of self.now).kept.samples }
     {
         self.stored.samples
+    }
+
+    /// Returns the nodes of its search, in the order in which they were made.
+    pub fn nodes(&self) -> &[Node]
+        ensures { result.now ≡ (state_of self.now).kept.search.nodes }
+    {
+        self.stored.search.nodes()
     }
 
     /// Returns whether work was done at the end of the last quantum, so that an admission is due.

@@ -6,7 +6,7 @@ use crate::line::Call;
 use crate::meeting::Meeting;
 use crate::served::{Served, print_report, print_sink};
 use crate::tally::Tally;
-use headline::{Texts, Words, deliver, run_program};
+use headline::{Progress, Texts, Words, deliver, run_program};
 use outside::{Gate, MemFiles, MemSink, OpenGate};
 use pn_types::{NoMemory, Seq};
 use quanta_log::read;
@@ -155,7 +155,7 @@ impl Case {
     }
 
     /// Serves words.
-    fn served<R: Threads + Wait + Sync, G: Gate + Sync>(
+    fn served<R: Threads + Wait + Sync, G: Gate + Progress + Sync>(
         &self,
         threads: &R,
         alloc: Global,

@@ -1,6 +1,8 @@
 //! A gate at which two workers meet.
 
+use headline::Progress;
 use outside::Gate;
+use session::Session;
 use std::sync::atomic::{AtomicBool, Ordering};
 use std::thread;
 
@@ -53,4 +55,8 @@ impl Gate for Meeting {
         }
         self.missed.store(true, Ordering::SeqCst);
     }
+}
+
+impl Progress for Meeting {
+    fn see(&self, _session: &Session) {}
 }

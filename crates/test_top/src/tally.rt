@@ -1,7 +1,9 @@
 //! A gate that counts the passes of two workers.
 
+use headline::Progress;
 use outside::Gate;
 use pn_types::Quantum;
+use session::Session;
 use std::sync::atomic::{AtomicBool, AtomicU64, Ordering};
 
 /// A gate that counts how often each of the workers 0 and 1 passes it.
@@ -56,4 +58,8 @@ impl Gate for Tally {
             self.wrong.store(true, Ordering::SeqCst);
         }
     }
+}
+
+impl Progress for Tally {
+    fn see(&self, _session: &Session) {}
 }

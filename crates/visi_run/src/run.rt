@@ -28,7 +28,7 @@ use std::alloc::Global;
 use std::sync::Wait;
 use std::thread;
 use std::thread::Threads;
-use whole_run::Rounds;
+use whole_run::{Progress, Rounds};
 
 /// The number of items for which the channel of a view has room.
 const ROOM: u32 = 64;
@@ -49,7 +49,7 @@ pub struct ViewedCourse {
 /// # Errors
 ///
 /// `NoMemory` where memory runs out.
-fn take_all<R: Wait, G: Gate>(
+fn take_all<R: Wait, G: Gate + Progress>(
     rt: &R,
     board: &Board,
     mut rounds: Rounds,
@@ -72,6 +72,7 @@ fn take_all<R: Wait, G: Gate>(
             return Ok(());
         };
         outlet.tell(rt, board, session, false)?;
+        gate.see(session);
     }
     unreachable!()
 }
@@ -81,7 +82,7 @@ fn take_all<R: Wait, G: Gate>(
 /// # Errors
 ///
 /// `NoMemory` where memory runs out.
-fn run<R: Wait, G: Gate>(
+fn run<R: Wait, G: Gate + Progress>(
     rt: &R,
     board: &Board,
     rounds: Rounds,
@@ -116,7 +117,7 @@ struct Streamed {
 /// # Errors
 ///
 /// `NoMemory` where memory runs out, also for one view alone.
-fn stream<R: Threads + Wait + Sync, G: Gate + Sync>(
+fn stream<R: Threads + Wait + Sync, G: Gate + Progress + Sync>(
     rt: &R,
     alloc: Global,
     course: ViewedCourse,
@@ -180,7 +181,7 @@ fn stream<R: Threads + Wait + Sync, G: Gate + Sync>(
 /// # Errors
 ///
 /// `NoMemory` where memory runs out, also for one view alone.
-fn view_on<R: Threads + Wait + Sync, G: Gate + Sync>(
+fn view_on<R: Threads + Wait + Sync, G: Gate + Progress + Sync>(
     rt: &R,
     alloc: Global,
     course: ViewedCourse,
@@ -214,7 +215,7 @@ fn view_on<R: Threads + Wait + Sync, G: Gate + Sync>(
 /// # Errors
 ///
 /// `NoMemory` where memory runs out, also for one view alone; `BadPick` with the first wish at tick 0 that is refused, if one is.
-pub fn view_run<R: Threads + Wait + Sync, G: Gate + Sync>(
+pub fn view_run<R: Threads + Wait + Sync, G: Gate + Progress + Sync>(
     rt: &R,
     alloc: Global,
     inputs: Inputs,

@@ -4,6 +4,7 @@
 mod laws;
 mod misfit;
 mod order;
+mod progress;
 mod recorded;
 mod replay;
 mod summed;
@@ -11,6 +12,7 @@ mod summed;
 pub use laws::{one_seeded, some_seeded, whole_quanta_fit};
 pub use misfit::{Misfit, ReplayFault};
 pub use order::{Rounds, take_quanta};
+pub use progress::Progress;
 pub use recorded::{Course, Recorded, record_end, record_run};
 pub use replay::replay_run;
 pub use summed::run_parts;

@@ -8,6 +8,7 @@ ghost use Rattle.turn_order.specs.Orders.{ready_of};
 ghost use Rattle.whole_run.specs.Rounds.{StandAt};
 ghost use Rattle.whole_run.specs.Seeded.{IsSeeded};
 
+use crate::progress::Progress;
 use pn_types::{HartNo, MAX_HARTS, MAX_QUANTA, MAX_QUANTUM, NoMemory, Quantum};
 use session::Session;
 use std::alloc::Global;
@@ -132,17 +133,19 @@ impl Rounds {
     }
 }
 
-/// Lets the harts of a session that just began take quanta of at most `turns` turns, in the order of a seed, until none can follow.
+/// Lets the harts of a session that just began take quanta of at most `turns` turns, in the order of a seed, until none can follow, and
+/// tells of each.
 ///
 /// # Errors
 ///
 /// `NoMemory` where memory runs out.
-pub fn take_quanta(
+pub fn take_quanta<P: Progress>(
     alloc: Global,
     session: &mut Session,
     harts: u32,
     seed: u32,
     turns: u32,
+    progress: &P,
 ) -> Result<(), NoMemory>
     requires begun { session.old ≡ new_session session.old.inputs }
     requires harts { harts ≡ session.old.inputs.settings.harts }
@@ -157,6 +160,7 @@ pub fn take_quanta(
         if rounds.next(session)?.is_none() {
             return Ok(());
         }
+        progress.see(session);
     }
     session.laws();
     Ok(())

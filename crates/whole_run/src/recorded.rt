@@ -7,6 +7,7 @@ ghost use Rattle.session_spec.specs.Opening.{bad_pick};
 ghost use Rattle.whole_run.specs.Recorded.{IsRecorded, IsRecordOf, log_of};
 
 use crate::order::take_quanta;
+use crate::progress::Progress;
 use pn_types::{MAX_QUANTUM, NoMemory, Settings};
 use quanta_log::write;
 use report::report;
@@ -67,11 +68,12 @@ pub fn record_end(
 }
 
 /// Runs a session that just began to its end.
-fn run_on(
+fn run_on<P: Progress>(
     alloc: Global,
     settings: &Settings,
     session: &mut Session,
     course: &Course,
+    progress: &P,
 ) -> Result<Recorded, NoMemory>
     requires given { AreGiven session.old.inputs }
     requires begun { session.old ≡ new_session session.old.inputs }
@@ -79,17 +81,29 @@ fn run_on(
     requires turns { (1 ≤ course.now.turns) × (course.now.turns ≤ MAX_QUANTUM) }
     ensures { IfOk result (IsRecorded session.old.inputs course.now) }
 {
-    take_quanta(alloc, session, settings.harts, course.seed, course.turns)?;
+    take_quanta(
+        alloc,
+        session,
+        settings.harts,
+        course.seed,
+        course.turns,
+        progress,
+    )?;
     record_end(alloc, settings, session, course.skipped)
 }
 
-/// Runs a program with its instruments: its harts take quanta in the order of a seed until none can follow. Returns the report and
-/// the log.
+/// Runs a program with its instruments: its harts take quanta in the order of a seed until none can follow, and each is told of. Returns
+/// the report and the log.
 ///
 /// # Errors
 ///
 /// `NoMemory` where memory runs out; `BadPick` with the first wish at tick 0 that is refused, if one is.
-pub fn record_run(alloc: Global, inputs: Inputs, course: &Course) -> Result<Recorded, StartFault>
+pub fn record_run<P: Progress>(
+    alloc: Global,
+    inputs: Inputs,
+    course: &Course,
+    progress: &P,
+) -> Result<Recorded, StartFault>
     requires given { AreGiven inputs }
     requires turns { (1 ≤ course.now.turns) × (course.now.turns ≤ MAX_QUANTUM) }
     ensures recorded { IfOk result (IsRecorded inputs course.now) }
@@ -98,7 +112,7 @@ pub fn record_run(alloc: Global, inputs: Inputs, course: &Course) -> Result<Reco
 {
     let settings = inputs.settings;
     let mut session = Session::begin(alloc, inputs)?;
-    match run_on(alloc, &settings, &mut session, course) {
+    match run_on(alloc, &settings, &mut session, course, progress) {
         Ok(recorded) => Ok(recorded),
         Err(_) => Err(StartFault::NoMemory),
     }

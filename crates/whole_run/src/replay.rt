@@ -13,13 +13,18 @@ ghost use Rattle.whole_run.specs.Recorded.{report_of};
 ghost use Rattle.whole_run.specs.Replayed.{misfit_of, IsMisfit, IsReplayFault};
 
 use crate::misfit::{Misfit, ReplayFault};
+use crate::progress::Progress;
 use pn_types::Quantum;
 use report::report;
 use session::{Inputs, Session};
 use std::alloc::Global;
 
 /// Lets the harts of a session that just began take the quanta that are told.
-fn follow(session: &mut Session, quanta: &[Quantum]) -> Result<(), ReplayFault>
+fn follow<P: Progress>(
+    session: &mut Session,
+    quanta: &[Quantum],
+    progress: &P,
+) -> Result<(), ReplayFault>
     requires begun { session.old ≡ new_session session.old.inputs }
     requires few { length quanta.now ≤ MAX_QUANTA }
     requires quanta { AllByRecursion (IsQuantum session.old.inputs.settings.harts) quanta.now }
@@ -41,6 +46,7 @@ fn follow(session: &mut Session, quanta: &[Quantum]) -> Result<(), ReplayFault>
                 taken.owns,
             )));
         }
+        progress.see(session);
     }
     if !session.done() {
         return Err(ReplayFault::Misfit(Misfit::Unfinished));
@@ -49,11 +55,12 @@ fn follow(session: &mut Session, quanta: &[Quantum]) -> Result<(), ReplayFault>
 }
 
 /// Runs a session that just began along the quanta, to its end. Returns the text of its report.
-fn run_along(
+fn run_along<P: Progress>(
     alloc: Global,
     session: &mut Session,
     quanta: &[Quantum],
     skipped: u32,
+    progress: &P,
 ) -> Result<Vec<u8>, ReplayFault>
     requires begun { session.old ≡ new_session session.old.inputs }
     requires few { length quanta.now ≤ MAX_QUANTA }
@@ -63,7 +70,7 @@ fn run_along(
     ensures report { IfOk result (λ report. report.items ≡ report_of session.old.inputs quanta.now skipped) }
     ensures misfit { IfErr result (IsMisfit session.old.inputs quanta.now) }
 {
-    follow(session, quanta)?;
+    follow(session, quanta, progress)?;
     session.close();
     let parts = session.parts()?;
     Ok(report(alloc, &parts, skipped)?)
@@ -76,11 +83,12 @@ fn run_along(
 ///
 /// `NotOpened` with `NoMemory` where memory runs out, and with `BadPick` and the first wish at tick 0 that is refused, if one is;
 /// `Misfit` with the first quantum that isn't the run's, or where the quanta end before the run does.
-pub fn replay_run(
+pub fn replay_run<P: Progress>(
     alloc: Global,
     inputs: Inputs,
     quanta: &[Quantum],
     skipped: u32,
+    progress: &P,
 ) -> Result<Vec<u8>, ReplayFault>
     requires given { AreGiven inputs }
     requires quanta { CanSpell version.Two inputs.settings quanta.now }
@@ -91,5 +99,5 @@ pub fn replay_run(
     ensures refused { IfErr result (IsReplayFault inputs quanta.now) }
 {
     let mut session = Session::begin(alloc, inputs)?;
-    run_along(alloc, &mut session, quanta, skipped)
+    run_along(alloc, &mut session, quanta, skipped, progress)
 }

@@ -8,7 +8,7 @@ use Rattle.commands.proofs.Opened.{unopened_is}
 use Rattle.commands.proofs.replaying.replay_prepared.Goals as goal
 
 pub returns-in-Err-NotOpened : goal.returns-in-Err-NotOpened
-returns-in-Err-NotOpened c =
+returns-in-Err-NotOpened g c =
     let i = c.args.prepared.inputs in
     let log = c.args.log.now in
     let refused : IsStartFault i c.in-Err-NotOpened.fault =

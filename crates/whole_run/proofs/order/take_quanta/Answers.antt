@@ -3,7 +3,7 @@ use Rattle.whole_run.proofs.Ordered.{seeded_by, stand_full}
 use Rattle.whole_run.proofs.order.take_quanta.Goals as goal
 
 pub returns-clause-seeded : goal.returns-clause-seeded
-returns-clause-seeded c =
+returns-clause-seeded g c =
     let k = c.quanta.invariant in
     let past = c.quanta-test.false in
     let number = k.number in

@@ -3,7 +3,7 @@ use Rattle.whole_run.specs.Rounds.{StandAt}
 use Rattle.whole_run.proofs.order.take_quanta.Given as goal
 
 abbrev pub invariant-quanta : goal.invariant-quanta
-invariant-quanta l = record {
+invariant-quanta g l = record {
   stand : StandAt l.rounds l.session;
   seed : l.rounds.seed ≡ l.seed;
   turns : l.rounds.turns ≡ l.turns;

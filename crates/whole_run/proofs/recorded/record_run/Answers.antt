@@ -5,4 +5,4 @@ use Rattle.session_spec.specs.Inputs.{Inputs}
 use Rattle.whole_run.proofs.recorded.record_run.Goals as goal
 
 pub run_on-requires-clause-given : goal.run_on-requires-clause-given
-run_on-requires-clause-given c = subst (λ (i : Inputs). AreGiven i) (sym (ap (λ (s : SessionData). s.inputs) c.in_ok-session.ensures.begun)) c.requires.given
+run_on-requires-clause-given g c = subst (λ (i : Inputs). AreGiven i) (sym (ap (λ (s : SessionData). s.inputs) c.in_ok-session.ensures.begun)) c.requires.given

@@ -15,28 +15,28 @@ abbrev blank : Quantum
 blank = record { worker = 0; hart = 0; turns = 0; owns = 0 }
 
 pub quanta-init : goal.quanta-init
-quanta-init c = record {
+quanta-init g c = record {
   follows = subst (Following c.args.session.now.inputs c.args.quanta.now 0) (sym (ap (λ (s : SessionData). s.quanta) c.requires.begun)) (follows_none c.args.session.now.inputs c.args.quanta.now);
   inputs = refl;
   going = ap (λ (s : SessionData). s.closed) c.requires.begun;
 }
 
 pub quantum-requires-clause-going : goal.quantum-requires-clause-going
-quantum-requires-clause-going c = c.quanta.invariant.going
+quantum-requires-clause-going g c = c.quanta.invariant.going
 
 pub quantum-requires-clause-hart : goal.quantum-requires-clause-hart
-quantum-requires-clause-hart c =
+quantum-requires-clause-hart g c =
     (all_at (IsQuantum c.quanta.session.inputs.settings.harts) c.args.quanta.now c.quanta.number blank
     (subst (λ (i : Inputs). AllByRecursion (IsQuantum i.settings.harts) c.args.quanta.now) (sym c.quanta.invariant.inputs) c.requires.quanta) c.quanta-test.true).hart
 
 pub returns-in_err-taken-clause-inputs : goal.returns-in_err-taken-clause-inputs
-returns-in_err-taken-clause-inputs c = c.in_err-taken.ensures.inputs ∙ c.quanta.invariant.inputs
+returns-in_err-taken-clause-inputs g c = c.in_err-taken.ensures.inputs ∙ c.quanta.invariant.inputs
 
 pub returns-in_default-clause-inputs : goal.returns-in_default-clause-inputs
-returns-in_default-clause-inputs c = c.in_ok-taken.ensures.inputs ∙ c.quanta.invariant.inputs
+returns-in_default-clause-inputs g c = c.in_ok-taken.ensures.inputs ∙ c.quanta.invariant.inputs
 
 pub returns-in_default-clause-misfit : goal.returns-in_default-clause-misfit
-returns-in_default-clause-misfit c =
+returns-in_default-clause-misfit g c =
     let s = c.quanta.session in
     let k = c.quanta.invariant in
     let told = slice_index_or c.args.quanta.now c.quanta.number blank in (
@@ -47,10 +47,10 @@ returns-in_default-clause-misfit c =
     )
 
 pub returns-then-taken-told-clause-inputs : goal.returns-then-taken-told-clause-inputs
-returns-then-taken-told-clause-inputs c = c.in_ok-taken.ensures.inputs ∙ c.quanta.invariant.inputs
+returns-then-taken-told-clause-inputs g c = c.in_ok-taken.ensures.inputs ∙ c.quanta.invariant.inputs
 
 pub returns-then-taken-told-clause-misfit : goal.returns-then-taken-told-clause-misfit
-returns-then-taken-told-clause-misfit c =
+returns-then-taken-told-clause-misfit g c =
     let s = c.quanta.session in
     let k = c.quanta.invariant in
     let told = slice_index_or c.args.quanta.now c.quanta.number blank in (
@@ -62,7 +62,7 @@ returns-then-taken-told-clause-misfit c =
     )
 
 pub quanta-preserved : goal.quanta-preserved
-quanta-preserved c =
+quanta-preserved g c =
     let s = c.quanta.session in
     let k = c.quanta.invariant in
     let new = c.quantum.new.self in
@@ -77,16 +77,16 @@ quanta-preserved c =
     }
 
 pub done-requires : goal.done-requires
-done-requires c = c.quanta.invariant.going
+done-requires g c = c.quanta.invariant.going
 
 pub returns-then-not-done-clause-inputs : goal.returns-then-not-done-clause-inputs
-returns-then-not-done-clause-inputs c = c.quanta.invariant.inputs
+returns-then-not-done-clause-inputs g c = c.quanta.invariant.inputs
 
 pub returns-then-not-done-clause-going : goal.returns-then-not-done-clause-going
-returns-then-not-done-clause-going c = c.quanta.invariant.going
+returns-then-not-done-clause-going g c = c.quanta.invariant.going
 
 pub returns-then-not-done-clause-misfit : goal.returns-then-not-done-clause-misfit
-returns-then-not-done-clause-misfit c =
+returns-then-not-done-clause-misfit g c =
     let s = c.quanta.session in
     let k = c.quanta.invariant in
     let past = c.quanta-test.false in
@@ -98,13 +98,13 @@ returns-then-not-done-clause-misfit c =
     )
 
 pub returns-clause-inputs : goal.returns-clause-inputs
-returns-clause-inputs c = c.quanta.invariant.inputs
+returns-clause-inputs g c = c.quanta.invariant.inputs
 
 pub returns-clause-going : goal.returns-clause-going
-returns-clause-going c = c.quanta.invariant.going
+returns-clause-going g c = c.quanta.invariant.going
 
 pub returns-clause-fit : goal.returns-clause-fit
-returns-clause-fit c =
+returns-clause-fit g c =
     let s = c.quanta.session in
     let k = c.quanta.invariant in
     let past = c.quanta-test.false in
@@ -114,12 +114,12 @@ returns-clause-fit c =
     (ended s.inputs c.args.quanta.now c.quanta.number s.quanta false k.follows (omega arith) (ap (goes_on s.inputs) (sym all) ∙ over))
 
 pub returns-clause-taken : goal.returns-clause-taken
-returns-clause-taken c =
+returns-clause-taken g c =
     let past = c.quanta-test.false in
     all_taken c.quanta.session.inputs c.args.quanta.now c.quanta.number c.quanta.session.quanta c.quanta.invariant.follows (omega arith)
 
 pub returns-clause-whole : goal.returns-clause-whole
-returns-clause-whole c =
+returns-clause-whole g c =
     let s = c.quanta.session in
     let k = c.quanta.invariant in
     let past = c.quanta-test.false in

@@ -20,10 +20,10 @@ refused i quanta (Err (fault.NotOpened (BadPick metric focus cause))) none h = a
 refused i quanta (Err (fault.Misfit misfit)) none h = (none, h.0, h.1)
 
 pub returns-clause-report : goal.returns-clause-report
-returns-clause-report c =
+returns-clause-report g c =
     subst (λ (i : Inputs). IfOk c.run_along.result (λ report. report.items ≡ report_of i c.args.quanta.now c.args.skipped)) (ap (λ (s : SessionData). s.inputs) c.in_ok-session.ensures.begun) c.run_along.ensures.report
 
 pub returns-clause-refused : goal.returns-clause-refused
-returns-clause-refused c =
+returns-clause-refused g c =
     refused c.args.inputs c.args.quanta.now c.run_along.result c.in_ok-session.ensures.picked
     (subst (λ (i : Inputs). IfErr c.run_along.result (IsMisfit i c.args.quanta.now)) (ap (λ (s : SessionData). s.inputs) c.in_ok-session.ensures.begun) c.run_along.ensures.misfit)
