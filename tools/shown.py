@@ -1,14 +1,13 @@
 #!/usr/bin/env python3
 """Runs the commands that the documents show, and compares what they print with what stands below them.
 
-    tools/shown.py [--make] [PARADYN]
+    tools/shown.py [--make] [PD]
 
 A command is an indented line of a document that begins with `$`, and goes on below where it ends in `\\`; what it prints are the indented
 lines below it, up to the next command. All of a document are run one after another in a copy of one folder of examples/, where
-`paradyn` is PARADYN, or crates/paradyn/out/paradyn where left out. Each that prints something else is told, and the status is 1 where
-there are some. With --make what they print is put into the documents instead. With tools/row.py as PARADYN they are held against the
-rows of test_top. Where the compiler that made the ELF files in examples/words isn't installed, the commands that call it are left
-out, and told."""
+`pd` is PD, or crates/pd/out/pd where left out. Each that prints something else is told, and the status is 1 where there are some. With
+--make what they print is put into the documents instead. With tools/row.py as PD they are held against the rows of test_top. Where
+the compiler that made the ELF files in examples/words isn't installed, the commands that call it are left out, and told."""
 
 import os
 import pathlib
@@ -76,7 +75,7 @@ def printed(words, folder, path):
     return done.stdout.decode()
 
 
-def run_document(name, folder, paradyn):
+def run_document(name, folder, program):
     """What each command of a document shows and prints; nothing for those that are left out."""
     compiles = has_compiler()
     lines = (TOP / name).read_text().split("\n")
@@ -85,7 +84,7 @@ def run_document(name, folder, paradyn):
         examples, programs = pathlib.Path(scratch) / "examples", pathlib.Path(scratch) / "programs"
         shutil.copytree(TOP / "examples", examples)
         programs.mkdir()
-        (programs / "paradyn").symlink_to(paradyn)
+        (programs / "pd").symlink_to(program)
         for command in commands(lines):
             if compiles or not any(compiler in command.words for compiler in COMPILERS):
                 answers.append((command, printed(command.words, examples / folder, f"{programs}:{os.environ['PATH']}")))
@@ -104,10 +103,10 @@ def put(name, lines, answers):
 
 def main():
     words = [word for word in sys.argv[1:] if word != "--make"]
-    paradyn = pathlib.Path(words[0] if words else TOP / "crates/paradyn/out/paradyn").resolve()
+    program = pathlib.Path(words[0] if words else TOP / "crates/pd/out/pd").resolve()
     count, differ, left = 0, 0, 0
     for name, folder in DOCUMENTS:
-        lines, answers = run_document(name, folder, paradyn)
+        lines, answers = run_document(name, folder, program)
         count += len(answers)
         left += sum(got is None for _, got in answers)
         for command, got in answers:

@@ -59,7 +59,7 @@ class Repository:
         self.crates = {path.parent.name: words_of(files_of(path.parent.name)) for path in (TOP / "crates").glob("*/src")}
         others = words_of([path for place in PLACES[1:] for path in files_below(TOP / place)])
         self.words = others.union(*self.crates.values())
-        self.options = self.crates["command_words"] | options_of(files_below(TOP / "tools") + files_below(TOP / "examples"))
+        self.options = self.crates["command_words"] | self.crates["pd_words"] | options_of(files_below(TOP / "tools") + files_below(TOP / "examples"))
         self.files = [str(path.relative_to(TOP)) for path in files_below(TOP) if ".git" not in path.parts]
 
     def has_file(self, name):

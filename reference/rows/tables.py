@@ -1,4 +1,6 @@
 """The test programs with rows: what each of their lines prints."""
+import re
+
 from paradyn import commands
 from . import calls, language, machine, patched, records
 
@@ -19,10 +21,16 @@ def table_rows(folder):
             yield line, *line.partition(" ")[::2]
 
 
+def standing_of_pd(folder):
+    """What stands for each row of `pd`, which is made by hand."""
+    _, *parts = re.split(r"^(\$ pd .*)\n", (folder / "stdout").read_text(), flags=re.M)
+    return {row.removeprefix("$ pd "): [row, *text.splitlines()] for row, text in zip(parts[::2], parts[1::2])}
+
+
 def test_language(folder):
-    source = (folder / "src/searches/rows.rt").read_text()
+    source, of_pd = (folder / "src/searches/rows.rt").read_text(), standing_of_pd(folder)
     tables = {"language": language.answer, "command": records.command, "record": records.record,
-              "search": lambda row: records.search(row, source)}
+              "search": lambda row: records.search(row, source), "pd": lambda row: of_pd.get(row, [])}
     for line, table, row in table_rows(folder):
         yield line, text(tables[table](row) if table in tables else ["no table"])
 

@@ -11,7 +11,11 @@ use std::alloc::Global;
 use std::io;
 
 /// The words of a line.
-fn words(alloc: Global, line: &str) -> Result<Vec<String>, NoMemory> {
+///
+/// # Errors
+///
+/// `NoMemory` where memory runs out.
+pub fn words(alloc: Global, line: &str) -> Result<Vec<String>, NoMemory> {
     let mut words = Vec::new(alloc);
     if !line.is_empty() {
         for word in line.split(' ') {

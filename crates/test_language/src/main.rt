@@ -2,6 +2,7 @@
 //!
 //! - `language`: calls on numbers, tokens, configurations, foci, checks and plans ([`language`]);
 //! - `command`: what words ask of `paradyn` ([`commands`]);
+//! - `pd`: what a person's words ask of `pd` ([`wishes`]);
 //! - `record`: logs and samples ([`records`]);
 //! - `search`: searches that are taken through steps ([`searches`]).
 //!
@@ -13,6 +14,7 @@ mod language;
 mod records;
 mod searches;
 mod starts;
+mod wishes;
 
 use std::alloc::Global;
 use std::io;
@@ -22,6 +24,7 @@ use std::io;
 enum Table {
     Language,
     Command,
+    Wish,
     Record,
     Search,
 }
@@ -32,6 +35,7 @@ impl Table {
         match name {
             "language" => Some(Table::Language),
             "command" => Some(Table::Command),
+            "pd" => Some(Table::Wish),
             "record" => Some(Table::Record),
             "search" => Some(Table::Search),
             _ => None,
@@ -48,6 +52,7 @@ fn answer(rt: &impl Print, alloc: Global, line: &str) -> io::Result<()> {
     match Table::of(name) {
         Some(Table::Language) => language::answer(rt, alloc, row),
         Some(Table::Command) => commands::answer(rt, alloc, row),
+        Some(Table::Wish) => wishes::answer(rt, alloc, row),
         Some(Table::Record) => records::answer(rt, alloc, row),
         Some(Table::Search) => searches::answer(rt, alloc, row),
         None => println!(rt; "no table"),

@@ -4,6 +4,7 @@ use crate::along::report_along;
 use crate::given::Given;
 use crate::line::Call;
 use crate::meeting::Meeting;
+use crate::person::answer_person;
 use crate::served::{Served, print_report, print_sink};
 use crate::tally::Tally;
 use headline::{Progress, Texts, Words, deliver, run_program};
@@ -118,11 +119,12 @@ impl Case {
             Call::Compare(words) => self.compare(rt, threads, alloc, words),
             Call::Deliver(texts) => self.deliver(rt, alloc, texts),
             Call::Row(options) => self.follow(rt, threads, alloc, options),
+            Call::Person(line) => self.show(rt, threads, alloc, line),
         }
     }
 
     /// Returns the files, of which none has been read.
-    fn files(&self, alloc: Global) -> Result<MemFiles, NoMemory> {
+    pub fn files(&self, alloc: Global) -> Result<MemFiles, NoMemory> {
         let mut files = MemFiles::new(alloc);
         for given in &self.files {
             given.give(alloc, &mut files)?;
@@ -131,7 +133,7 @@ impl Case {
     }
 
     /// Returns a sink of which these writings fail.
-    fn sink(&self, alloc: Global, fails: &[u64]) -> Result<MemSink, NoMemory> {
+    pub fn sink(&self, alloc: Global, fails: &[u64]) -> Result<MemSink, NoMemory> {
         MemSink::new(alloc, ROOM, self.piece, Vec::from_slice(alloc, fails)?)
     }
 
@@ -168,6 +170,20 @@ impl Case {
         let mut files = self.files(alloc)?;
         let exit = run_program(threads, alloc, &words, &mut files, &mut out, &mut log, gate);
         Ok(Served { exit, out, log })
+    }
+
+    /// Prints what a person is shown of words.
+    fn show<R: Threads + Wait + Sync>(
+        &self,
+        rt: HostRuntime,
+        threads: &R,
+        alloc: Global,
+        line: &str,
+    ) -> io::Result<()> {
+        match words(alloc, Some(line))? {
+            Words::Read(words) => answer_person(rt, threads, alloc, self, &words),
+            Words::NotText | Words::NoMemory => Ok(()),
+        }
     }
 
     /// Serves words, and prints how the program ends and what the sinks gained.

@@ -30,6 +30,8 @@ pub enum Call<'a> {
     Deliver(&'a str),
     /// A session takes the quanta of a run with these options.
     Row(&'a str),
+    /// Words of `pd`.
+    Person(&'a str),
 }
 
 impl<'a> Line<'a> {
@@ -52,6 +54,7 @@ impl<'a> Line<'a> {
             "not-text" => Line::Call(Call::Serve(None)),
             "deliver" => Line::Call(Call::Deliver(rest)),
             "row" => Line::Call(Call::Row(rest)),
+            "pd" => Line::Call(Call::Person(rest)),
             "" | "#" => Line::Nothing,
             _ => Line::Given(word, rest),
         }

@@ -19,6 +19,8 @@
 //! - `deliver LOG OUTPUT`: these two texts are delivered, and what the log and the output gained is printed.
 //! - `row OPTIONS`: the program `p` under the configuration `c` is run with these options, and replayed; by the calls of a session alone
 //!   it is run along the log that `run` left. The session's report is printed, and whether the commands' are the same.
+//! - `pd WORDS`: what a person is shown who types these words of `pd`: the status, how much standard output gained and its first line, and
+//!   what standard error gained.
 //!
 //! Other lines say nothing.
 #![tactic(auto)]
@@ -28,6 +30,7 @@ mod case;
 mod given;
 mod line;
 mod meeting;
+mod person;
 mod served;
 mod tally;
 

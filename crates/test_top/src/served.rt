@@ -28,7 +28,7 @@ impl Drop for Served {
 }
 
 /// Prints bytes as they are.
-fn print_bytes(rt: HostRuntime, bytes: &[u8]) {
+pub fn print_bytes(rt: HostRuntime, bytes: &[u8]) {
     let mut printed = StdSink::new(rt);
     let _ = write_all(&mut printed, bytes);
 }

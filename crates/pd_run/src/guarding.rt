@@ -1,0 +1,43 @@
+//! What must not be written over.
+
+ghost use Rattle.std.specs.Prelude.{◌≡◌, ◌⊎◌, true};
+ghost use Rattle.outside.specs.Causes.{Rose};
+ghost use Rattle.pd_run.specs.Guards.{MayGo, beginning_of};
+
+use outside::Files;
+
+/// Kinds of files that are written.
+#[derive(Clone, Copy, Drop)]
+pub enum Kind {
+    /// A log of quanta.
+    Log,
+    /// A report.
+    Report,
+    /// An ELF file.
+    Elf,
+}
+
+impl Kind {
+    /// Returns how files of the kind begin.
+    fn beginning(self) -> &'static [u8]
+        ensures { result.now ≡ beginning_of self }
+    {
+        match self {
+            Kind::Log => b"PDYNLOG",
+            Kind::Report => b"paradyn report ",
+            Kind::Elf => b"\x7fELF",
+        }
+    }
+}
+
+/// Returns whether a file may be written over: it can't be read, as where it isn't there, or is empty, or begins as one of the kind.
+pub fn may_write<F: Files>(files: &mut F, name: &str, kind: Kind) -> bool
+    ensures { result ≡ true → Rose (F.faults files.old name.now) (F.faults files.new name.now) ⊎ MayGo kind (F.holds files.old name.now) }
+{
+    let mut front = [0; 32];
+    match files.read_at(name, 0, &mut front) {
+        Ok(0) => true,
+        Ok(count) => front[..count].starts_with(kind.beginning()),
+        Err(_) => true,
+    }
+}

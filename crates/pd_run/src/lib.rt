@@ -1,0 +1,10 @@
+//! What `pd` does with words that the top call serves: the text goes to standard output, and a fault to standard error.
+#![tactic(auto)]
+
+mod guarding;
+mod held;
+mod serving;
+
+pub use guarding::{Kind, may_write};
+pub use held::Held;
+pub use serving::{Screen, Shown, serve_words};

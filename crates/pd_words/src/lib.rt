@@ -1,0 +1,15 @@
+//! The words of `pd`, the program that people type: which of `paradyn`'s words they stand for, and what is said where they stand for
+//! none. The tables of commands and words are all that the parser, the man page and the completions are made of.
+#![tactic(auto)]
+
+mod commands;
+mod completions;
+mod lines;
+mod man;
+mod parser;
+mod rows;
+mod served;
+mod wishes;
+mod words;
+
+pub use wishes::{CheckWords, Serving, Wish, read_wish};

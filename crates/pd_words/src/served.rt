@@ -1,0 +1,95 @@
+//! The words that are handed to the top call.
+
+ghost use Rattle.std.specs.Prelude.{◌≡◌, map, string_bytes, IfOk};
+
+use crate::lines::add;
+use crate::rows::{CommandRow, Kind};
+use crate::words::all_words;
+use clap::ArgMatches;
+use clap::parser::ValueSource;
+use pn_types::NoMemory;
+use std::alloc::Global;
+
+/// Copies words.
+///
+/// # Errors
+///
+/// `NoMemory` where memory runs out.
+pub fn copied(alloc: Global, words: &[String]) -> Result<Vec<String>, NoMemory>
+    ensures { IfOk result (λ copy. map string_bytes copy.items ≡ map string_bytes words.now) }
+{
+    let mut copies = Vec::new(alloc);
+    for word in words {
+        copies.push(String::from_str(alloc, word.as_str())?)?;
+    }
+    Ok(copies)
+}
+
+fn add_word(alloc: Global, words: &mut Vec<String>, word: &str) -> Result<(), NoMemory> {
+    words.push(String::from_str(alloc, word)?)?;
+    Ok(())
+}
+
+/// Adds an option with its value in its own word, where the value may begin with `-`.
+fn add_option<'t>(
+    alloc: Global,
+    words: &mut Vec<String>,
+    name: &'t str,
+    value: &'t str,
+) -> Result<(), NoMemory> {
+    let mut word = String::new(alloc);
+    add(&mut word, &["--", name, "=", value])?;
+    words.push(word)?;
+    Ok(())
+}
+
+/// Adds each option of `paradyn` that was given.
+fn add_options(
+    alloc: Global,
+    words: &mut Vec<String>,
+    given: &ArgMatches<'_>,
+) -> Result<(), NoMemory> {
+    for row in all_words() {
+        if matches!(row.kind, Kind::ServedOption)
+            && given.value_source(row.name) == Some(ValueSource::CommandLine)
+        {
+            let value = given.get_str(row.name).unwrap_or("");
+            add_option(alloc, words, row.name, value)?;
+        }
+    }
+    Ok(())
+}
+
+/// Adds the positional words, in their order.
+fn add_places(
+    alloc: Global,
+    words: &mut Vec<String>,
+    given: &ArgMatches<'_>,
+) -> Result<(), NoMemory> {
+    for row in all_words() {
+        if matches!(row.kind, Kind::Place)
+            && let Some(word) = given.get_str(row.name)
+        {
+            add_word(alloc, words, word)?;
+        }
+    }
+    Ok(())
+}
+
+/// Returns the words of `paradyn` that ask for what was given to a command.
+///
+/// # Errors
+///
+/// `NoMemory` where memory runs out.
+pub fn served_words(
+    alloc: Global,
+    command: &CommandRow,
+    given: &ArgMatches<'_>,
+) -> Result<Vec<String>, NoMemory> {
+    let mut words = Vec::new(alloc);
+    add_word(alloc, &mut words, command.word)?;
+    add_options(alloc, &mut words, given)?;
+    add_word(alloc, &mut words, "--")?;
+    add_places(alloc, &mut words, given)?;
+    Ok(words)
+}

@@ -1,0 +1,207 @@
+//! The positional words and the options.
+//!
+//! Their texts go into help and the man page as they are: none has a backslash, or begins with a dot or a quote.
+
+use crate::rows::{Kind, Values, WordRow};
+use command_words::MAX_VIEWS;
+use pn_types::{
+    MAX_BINS, MAX_BUDGET, MAX_HARTS, MAX_INSTRUMENTS, MAX_QUANTUM, MAX_WIDTH, MAX_WORKERS, MIN_BINS,
+};
+
+const SHELLS: [&str; 2] = ["bash", "zsh"];
+
+const STARTS: [&str; 2] = ["cold", "warm"];
+
+/// What most positional words have in common.
+const PLACE: WordRow = WordRow {
+    kind: Kind::Place,
+    name: "",
+    letter: None,
+    value: "",
+    values: Values::File,
+    default: None,
+    what: "",
+};
+
+/// What most options have in common.
+const OPTION: WordRow = WordRow {
+    kind: Kind::ServedOption,
+    value: "N",
+    ..PLACE
+};
+
+/// What options have in common that stand alone.
+const FLAG: WordRow = WordRow {
+    kind: Kind::OwnOption,
+    values: Values::Alone,
+    ..PLACE
+};
+
+static WORDS: [WordRow; 25] = [
+    WordRow {
+        name: "PROGRAM",
+        what: "The program, an ELF file or an assembly text",
+        ..PLACE
+    },
+    WordRow {
+        name: "CONF",
+        what: "The configuration, which says what to measure and what to search for",
+        ..PLACE
+    },
+    WordRow {
+        name: "LOG",
+        what: "The log of a run",
+        ..PLACE
+    },
+    WordRow {
+        name: "TEXT",
+        what: "The assembly text",
+        ..PLACE
+    },
+    WordRow {
+        name: "METRIC",
+        values: Values::Text,
+        what: "The name of a metric that the configuration has",
+        ..PLACE
+    },
+    WordRow {
+        name: "FOCUS",
+        values: Values::Text,
+        what: "Where it is measured, as /Code/program/main,/Machine/hart0",
+        ..PLACE
+    },
+    WordRow {
+        name: "N",
+        values: Values::Number(1, 200),
+        what: "How many procedures the program is made of, 1 to 200",
+        ..PLACE
+    },
+    WordRow {
+        name: "SEED",
+        values: Values::Number(0, 4_294_967_295),
+        what: "The seed that the program is drawn from, 0 to 4294967295",
+        ..PLACE
+    },
+    WordRow {
+        name: "REPORT",
+        what: "A report with a search in it",
+        ..PLACE
+    },
+    WordRow {
+        name: "DIRECTIVES",
+        what: "Directives for the search, as advise prints them",
+        ..PLACE
+    },
+    WordRow {
+        name: "SHELL",
+        values: Values::Words(&SHELLS),
+        what: "Which shell, bash or zsh",
+        ..PLACE
+    },
+    WordRow {
+        name: "harts",
+        letter: Some("n"),
+        values: Values::Number(1, MAX_HARTS as u64),
+        default: Some("1"),
+        what: "How many harts the machine has, 1 to 32",
+        ..OPTION
+    },
+    WordRow {
+        name: "seed",
+        letter: Some("s"),
+        values: Values::Number(0, 4_294_967_295),
+        default: Some("0"),
+        what: "The seed that draws whose turn it is, 0 to 4294967295; at 0 harts go by number",
+        ..OPTION
+    },
+    WordRow {
+        name: "workers",
+        values: Values::Number(1, MAX_WORKERS as u64),
+        default: Some("2"),
+        what: "How many threads share the run, 1 to 16",
+        ..OPTION
+    },
+    WordRow {
+        name: "views",
+        values: Values::Number(1, MAX_VIEWS as u64),
+        default: Some("2"),
+        what: "How many threads view the run, 1 to 8",
+        ..OPTION
+    },
+    WordRow {
+        name: "quantum",
+        values: Values::Number(1, MAX_QUANTUM as u64),
+        default: Some("50"),
+        what: "How many turns a hart takes in a row at most, 1 to 10000",
+        ..OPTION
+    },
+    WordRow {
+        name: "budget",
+        values: Values::Number(1, MAX_BUDGET),
+        default: Some("1000000"),
+        what: "How many ticks each hart runs at most, 1 to 100000000",
+        ..OPTION
+    },
+    WordRow {
+        name: "bins",
+        values: Values::Number(MIN_BINS as u64, MAX_BINS as u64),
+        default: Some("64"),
+        what: "How many bins a histogram has, 2 to 1024",
+        ..OPTION
+    },
+    WordRow {
+        name: "width",
+        values: Values::Number(1, MAX_WIDTH),
+        default: Some("1000"),
+        what: "How many ticks a bin has at first, 1 to 1000000",
+        ..OPTION
+    },
+    WordRow {
+        name: "instruments",
+        values: Values::Number(1, MAX_INSTRUMENTS as u64),
+        default: Some("64"),
+        what: "How many instruments may stand at once, 1 to 1024",
+        ..OPTION
+    },
+    WordRow {
+        name: "start",
+        value: "START",
+        values: Values::Words(&STARTS),
+        default: Some("warm"),
+        what: "Whether the run starts cold or warm",
+        ..OPTION
+    },
+    WordRow {
+        name: "log",
+        value: "FILE",
+        values: Values::File,
+        what: "Writes the log of the run to FILE, for replay",
+        ..OPTION
+    },
+    WordRow {
+        kind: Kind::OwnOption,
+        name: "output",
+        letter: Some("o"),
+        value: "FILE",
+        values: Values::File,
+        what: "Writes what is printed to FILE, in place of standard output",
+        ..OPTION
+    },
+    WordRow {
+        name: "force",
+        what: "Lets --log and --output write over any file",
+        ..FLAG
+    },
+    WordRow {
+        name: "quiet",
+        letter: Some("q"),
+        what: "Says nothing on standard error but what is wrong",
+        ..FLAG
+    },
+];
+
+/// Returns all positional words and options: first the words, each after those that stand before it in commands, and then the options, in
+/// the order in which help lists them.
+pub fn all_words() -> &'static [WordRow] {
+    &WORDS
+}
