@@ -1,0 +1,5 @@
+pub mod Executions
+pub mod HartEnds
+pub mod Numbers
+pub mod Laws
+pub mod Transfers
