@@ -1,0 +1,4 @@
+pub mod Stops
+pub mod Placing
+pub mod IndirectJumps
+pub mod Profiles
