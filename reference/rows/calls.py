@@ -193,7 +193,12 @@ def row(case, rest):
     return b"run %s replay same\n" % sameness(out.content, replayed.content) + replayed.content + b"\n"
 
 
-CALLS = {b"words": serve, b"begin": begin, b"keep": keep, b"meet": meet, b"count": count, b"compare": compare, b"not-text": not_text,
+def person(case, rest):
+    """What a person is shown is made by hand: the reference has no words of `pd`."""
+    raise NotImplementedError
+
+
+CALLS = {b"pd": person, b"words": serve, b"begin": begin, b"keep": keep, b"meet": meet, b"count": count, b"compare": compare, b"not-text": not_text,
          b"deliver": deliver_row, b"row": row}
 
 
@@ -210,7 +215,19 @@ def calls(stdin):
             case.take(word, rest)
 
 
-def answers(stdin):
-    """Pairs of a call's line and what is printed behind it."""
-    for line, call, case in calls(stdin):
-        yield line, line + b"\n" + call(case)
+def standing_row(standing, at, line, following):
+    """What stands for a row that is made by hand, from a place on and up to the row that follows; and where it ends."""
+    start = standing.find(b"\n" + line + b"\n", max(at - 1, 0)) + 1
+    end = standing.find(b"\n\n" + following + b"\n", start) + 2 if following else len(standing)
+    return standing[start:end], end
+
+
+def answers(stdin, standing):
+    """Pairs of a call's line and what is printed behind it; of rows made by hand, what stands there."""
+    lines, at = [line for line, _, _ in calls(stdin)], 0
+    for number, (line, call, case) in enumerate(calls(stdin)):
+        if line.startswith(b"pd "):
+            text, at = standing_row(standing, at, line, (lines[number + 1:number + 2] or [None])[0])
+            yield line, text
+        else:
+            yield line, line + b"\n" + call(case)

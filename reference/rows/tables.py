@@ -11,7 +11,7 @@ def text(lines):
 
 def test_top(folder):
     """Pairs of a row and what it prints."""
-    return calls.answers((folder / "stdin").read_bytes())
+    return calls.answers((folder / "stdin").read_bytes(), (folder / "stdout").read_bytes())
 
 
 def table_rows(folder):

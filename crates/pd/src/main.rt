@@ -1,6 +1,8 @@
 //! The program that people type: it reads what they want, and hands the real files and sinks to the call that serves it.
 #![tactic(auto)]
 
+ghost use Rattle.std.specs.Prelude.{◌≤◌};
+
 mod stderr_sink;
 mod terminal;
 mod ticker;
@@ -13,7 +15,7 @@ use outside::{DropSink, FileSink, OsFiles, Sink, StdSink};
 use pd_hints::{check, explain, notes};
 use pd_run::{Kind, Screen, Shown, may_write, serve_words};
 use pd_words::{CheckWords, Serving, Wish, read_wish};
-use pn_types::NoMemory;
+use pn_types::{MAX_HARTS, NoMemory};
 use refusals::Refusal;
 use std::alloc::Global;
 use std::process::ExitCode;
@@ -152,12 +154,23 @@ fn print(rt: &HostRuntime, text: &str) -> u8 {
     }
 }
 
+/// Returns how many harts a check is for.
+fn harts_of(wanted: &CheckWords) -> u32
+    ensures { result ≤ MAX_HARTS }
+{
+    if wanted.harts <= MAX_HARTS {
+        wanted.harts
+    } else {
+        MAX_HARTS
+    }
+}
+
 /// Prints what would mislead in a program and a configuration.
 fn look_over(rt: &HostRuntime, wanted: &CheckWords) -> Result<u8, NoMemory> {
     let alloc = rt.alloc();
     let mut files = OsFiles::new(*rt);
     let conf = wanted.conf.as_ref().map(|name| name.as_str());
-    match check(alloc, &wanted.program, conf, wanted.harts, &mut files) {
+    match check(alloc, &wanted.program, conf, harts_of(wanted), &mut files) {
         Ok(text) => Ok(print(rt, &text)),
         Err(Refusal::Fault(fault)) => {
             let line = faults_text(alloc, &fault)?;

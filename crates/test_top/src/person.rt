@@ -1,5 +1,7 @@
 //! What a person is shown: the words of `pd`.
 
+ghost use Rattle.std.specs.Prelude.{◌≤◌};
+
 use crate::case::Case;
 use crate::served::print_bytes;
 use headline::faults_text;
@@ -7,7 +9,7 @@ use outside::OpenGate;
 use pd_hints::{check, explain, notes};
 use pd_run::{Screen, serve_words};
 use pd_words::{CheckWords, Wish, read_wish};
-use pn_types::NoMemory;
+use pn_types::{MAX_HARTS, NoMemory};
 use refusals::Refusal;
 use std::alloc::Global;
 use std::io;
@@ -26,7 +28,7 @@ struct Sight {
 }
 
 /// Returns the sight of a text on standard output, and of one on standard error.
-fn sight(alloc: Global, out: &str, err: String) -> Result<Sight, NoMemory> {
+fn text_sight(alloc: Global, out: &str, err: String) -> Result<Sight, NoMemory> {
     Ok(Sight {
         status: 0,
         count: out.len(),
@@ -36,7 +38,7 @@ fn sight(alloc: Global, out: &str, err: String) -> Result<Sight, NoMemory> {
 }
 
 /// Returns the sight of a status and a text on standard error.
-fn wrong(alloc: Global, status: u8, err: String) -> Sight {
+fn fault_sight(alloc: Global, status: u8, err: String) -> Sight {
     Sight {
         status,
         count: 0,
@@ -70,19 +72,30 @@ fn serve<R: Threads + Wait + Sync>(
     let text = shown.text.as_slice();
     if shown.status == 0 {
         let out = String::from_utf8_lossy(alloc, text)?;
-        return sight(alloc, &out, notes(alloc, text)?);
+        return text_sight(alloc, &out, notes(alloc, text)?);
     }
     let mut err = String::from_utf8_lossy(alloc, screen.err.bytes())?;
     err.push_str(&explain(alloc, text, words, &mut files)?)?;
-    Ok(wrong(alloc, shown.status, err))
+    Ok(fault_sight(alloc, shown.status, err))
+}
+
+/// Returns how many harts a check is for.
+fn harts_of(wanted: &CheckWords) -> u32
+    ensures { result ≤ MAX_HARTS }
+{
+    if wanted.harts <= MAX_HARTS {
+        wanted.harts
+    } else {
+        MAX_HARTS
+    }
 }
 
 /// Looks a program and a configuration over.
 fn look_over(alloc: Global, case: &Case, wanted: &CheckWords) -> Result<Sight, NoMemory> {
     let mut files = case.files(alloc)?;
     let conf = wanted.conf.as_ref().map(|name| name.as_str());
-    match check(alloc, &wanted.program, conf, wanted.harts, &mut files) {
-        Ok(text) => Ok(wrong(alloc, 0, text)),
+    match check(alloc, &wanted.program, conf, harts_of(wanted), &mut files) {
+        Ok(text) => Ok(fault_sight(alloc, 0, text)),
         Err(Refusal::Fault(fault)) => {
             let line = faults_text(alloc, &fault)?;
             Ok(wrong(
@@ -103,8 +116,8 @@ fn seen<R: Threads + Wait + Sync>(
     words: &[String],
 ) -> Result<Sight, NoMemory> {
     match read_wish(alloc, words)? {
-        Wish::Print(text) => sight(alloc, &text, String::new(alloc)),
-        Wish::Wrong(text) => Ok(wrong(alloc, 2, text)),
+        Wish::Print(text) => text_sight(alloc, &text, String::new(alloc)),
+        Wish::Wrong(text) => Ok(fault_sight(alloc, 2, text)),
         Wish::Check(wanted) => look_over(alloc, case, &wanted),
         Wish::Serve(serving) => serve(threads, alloc, case, &serving.words),
     }
