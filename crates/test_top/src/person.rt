@@ -98,7 +98,7 @@ fn look_over(alloc: Global, case: &Case, wanted: &CheckWords) -> Result<Sight, N
         Ok(text) => Ok(fault_sight(alloc, 0, text)),
         Err(Refusal::Fault(fault)) => {
             let line = faults_text(alloc, &fault)?;
-            Ok(wrong(
+            Ok(fault_sight(
                 alloc,
                 fault.status(),
                 String::from_utf8_lossy(alloc, &line)?,
