@@ -26,6 +26,9 @@ use std::{env, io};
 /// The status of words that are wrong, and of a file that isn't written over.
 const WRONG: u8 = 2;
 
+/// What is said where the output couldn't be written.
+const NOT_WRITTEN: &str = "pd: could not write all: the disk is full, or there is no such folder\n";
+
 /// The status where memory ran out.
 const NO_MEMORY: u8 = 8;
 
@@ -102,6 +105,9 @@ fn serve_with<R: Threads + Wait + Sync, K: Sink + Drop, L: Sink>(
     let mut files = OsFiles::new(*rt);
     let alloc = rt.alloc();
     let shown = serve_words(threads, alloc, words, &mut files, &mut screen, log, &ticker);
+    if shown.status == 7 && screen.out.faults() > 0 {
+        say(rt, NOT_WRITTEN);
+    }
     if shown.status != 0 || !serving.quiet {
         comment(rt, words, &shown)?;
     }
