@@ -29,6 +29,8 @@ pub enum Fault {
     BadDirectives(ConfFault),
     /// The report is faulty at this place, in bytes from its front.
     BadReport(u64),
+    /// No procedure of the program has this name.
+    NoProcedure(Text),
 }
 
 impl Fault {
@@ -46,6 +48,7 @@ impl Fault {
             Fault::TooManyBlocks(_) => 11,
             Fault::BadDirectives(_) => 12,
             Fault::BadReport(_) => 13,
+            Fault::NoProcedure(_) => 14,
         }
     }
 }

@@ -127,6 +127,7 @@ pub fn faults_text(alloc: Global, fault: &Fault) -> Result<Vec<u8>, NoMemory>
         Fault::TooManyBlocks(count) => Ok(too_many_blocks(alloc, *count)?),
         Fault::BadDirectives(fault) => Ok(bad_directives(alloc, *fault)?),
         Fault::BadReport(place) => Ok(bad_report(alloc, *place)?),
+        Fault::NoProcedure(name) => Ok(no_procedure(alloc, name)?),
     }
 }
 
@@ -135,6 +136,16 @@ fn unreadable(alloc: Global, name: &Text) -> Result<Vec<u8>, NoMemory>
 {
     let mut line = Vec::new(alloc);
     line.extend_from_slice(b"paradyn: cannot read ")?;
+    line.extend_from_slice(name.bytes())?;
+    line.extend_from_slice(b"\n")?;
+    Ok(line)
+}
+
+fn no_procedure(alloc: Global, name: &Text) -> Result<Vec<u8>, NoMemory>
+    ensures { IfOk result (λ text. text.items ≡ fault_line (Fault.NoProcedure name.now)) }
+{
+    let mut line = Vec::new(alloc);
+    line.extend_from_slice(b"paradyn: no procedure ")?;
     line.extend_from_slice(name.bytes())?;
     line.extend_from_slice(b"\n")?;
     Ok(line)
