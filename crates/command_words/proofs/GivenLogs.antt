@@ -1,11 +1,10 @@
 -- The name of a log, from the values of the walk.
 use Rattle.std.proofs.Common.{◌≡◌, List, ◌∷◌, refl, ap, sym, ◌∙◌, Option, None, Some}
-use Rattle.std.specs.Prelude.{codes}
 use Rattle.std.specs.Option.{option_and_then}
 use Rattle.command_words.specs.Grammar.{Text, Form, NamedValues, given_in, taken_of}
 use Rattle.command_words.specs.Commands.{form_of, command_named}
 use Rattle.command_words.specs.Requests.{Request, request_from}
-use Rattle.command_words.specs.Logs.{log_from, log_of}
+use Rattle.command_words.specs.Logs.{log_from, log_given, log_of}
 use Rattle.command_words.specs.Walks.{Values, value_of, values_of}
 use Rattle.command_words.specs.declared.commands.CommandName.{CommandName}
 use Rattle.command_words.proofs.Agreeing.{Same}
@@ -37,8 +36,8 @@ log_is words word others command form v e f g h =
 
 -- without a request there is no log
 pub none_asked : (command : CommandName) (form : Form) (values : Values) → None ≡ request_from command (value_of form values) → log_with command form (Some values) ≡ None
-none_asked command form values e = ap (λ (o : Option Request). option_and_then (λ request. value_of form values (codes "log")) o) (sym e)
+none_asked command form values e = ap (λ (o : Option Request). option_and_then (λ request. log_given (value_of form values)) o) (sym e)
 
--- with one it is the value of `log`
-pub some_asked : (command : CommandName) (form : Form) (values : Values) (request : Request) → Some request ≡ request_from command (value_of form values) → log_with command form (Some values) ≡ value_of form values (codes "log")
-some_asked command form values request e = ap (λ (o : Option Request). option_and_then (λ request. value_of form values (codes "log")) o) (sym e)
+-- with one it is the value of `log` or of `callgrind`
+pub some_asked : (command : CommandName) (form : Form) (values : Values) (request : Request) → Some request ≡ request_from command (value_of form values) → log_with command form (Some values) ≡ log_given (value_of form values)
+some_asked command form values request e = ap (λ (o : Option Request). option_and_then (λ request. log_given (value_of form values)) o) (sym e)

@@ -14,6 +14,7 @@ mod LeftToTake
 mod MachineAndGrammar
 mod Slots
 mod Agreeing
+mod Commas
 mod CommandsChecked
 mod Words
 mod GrammarRows

@@ -5,10 +5,10 @@ use Rattle.std.specs.Option.{option_and_then}
 use Rattle.std.specs.Str.{bytes_eq}
 use Rattle.command_words.specs.Commands.{commands, form_of}
 use Rattle.command_words.specs.Grammar.{Text, Given, given_in, taken_of}
-use Rattle.command_words.specs.Numbers.{number_between, number_given, budget_option, harts_option}
-use Rattle.command_words.specs.Requests.{Request, begins_threaded, IsUnthreaded, place_in, request_from, request_of, session_of, order_of}
+use Rattle.command_words.specs.Numbers.{number_between, number_given, harts_option, top_option}
+use Rattle.command_words.specs.Requests.{Request, begins_threaded, IsUnthreaded, place_in, request_from, request_of, session_of, order_of, blocks_of, profile_source, shape_given}
 use Rattle.command_words.specs.declared.commands.CommandName.{CommandName}
-use Rattle.command_words.specs.declared.commands.CommandName.TheVariants.{Run, Live, Replay, Asm, Points, Plan, Stress, Relog, Blocks, Visi, Advise, Direct}
+use Rattle.command_words.specs.declared.commands.CommandName.TheVariants.{Run, Live, Replay, Asm, Points, Plan, Stress, Relog, Blocks, Visi, Advise, Direct, Profile, Annotate}
 
 abbrev pub AskUnthreaded : Option Request → Type 0
 AskUnthreaded None = ⊤
@@ -35,8 +35,14 @@ module _ (given : Given) where
       chained _ (number_between 1 200 (place_in given (codes "procs"))) (λ procs. mapped _ (number_between 0 4294967295 (place_in given (codes "seed"))) (λ seed. tt))
 
   blocks_begin_none : AskUnthreaded (request_from Blocks given)
-  blocks_begin_none =
-      chained _ (number_given given harts_option) (λ harts. chained _ (number_given given budget_option) (λ budget. mapped _ (order_of given) (λ order. tt)))
+  blocks_begin_none = mapped _ (blocks_of given) (λ r. tt)
+
+  profile_begins_none : AskUnthreaded (request_from Profile given)
+  profile_begins_none =
+      chained _ (profile_source given) (λ source. chained _ (shape_given given) (λ shape. mapped _ (number_given given top_option) (λ top. tt)))
+
+  annotate_begins_none : AskUnthreaded (request_from Annotate given)
+  annotate_begins_none = mapped _ (profile_source given) (λ source. tt)
 
   direct_begins_none : AskUnthreaded (request_from Direct given)
   direct_begins_none =
@@ -66,6 +72,8 @@ module _ (word : Text) (words : List Text) (other : bytes_eq (codes "live") word
   named Stress e = by Stress stress_begins_none
   named Relog e = by Relog (λ given. tt)
   named Blocks e = by Blocks blocks_begin_none
+  named Profile e = by Profile profile_begins_none
+  named Annotate e = by Annotate annotate_begins_none
 
   either : (name : CommandName) (rest : Option CommandName) (b : Bool) → bytes_eq (form_of name).word word ≡ b → AskUnthreaded (option_and_then asked_as rest)
       → AskUnthreaded (option_and_then asked_as (cond b (Some name) rest))

@@ -1,11 +1,13 @@
 -- What a request's value asks for, and what clap's matches give.
-use Rattle.std.specs.Prelude.{◌≡◌, List, Some, option_map}
+use Rattle.std.specs.Prelude.{◌≡◌, List, [], Some, option_map}
+use Rattle.std.specs.Option.{option_map_or}
 use Rattle.clap.specs.Words.{first_value, found_of}
 use Rattle.clap.specs.declared.parser.matches.ArgMatches.{ArgMatches}
+use Rattle.command_words.specs.Addresses.{addresses_of}
 use Rattle.command_words.specs.Grammar.{Text, Form, Given, NamedValues, given_in, taken_of}
 use Rattle.command_words.specs.Requests as request
 use Rattle.command_words.specs.declared.requests.Request.{Request}
-use Rattle.command_words.specs.declared.requests.Request.TheVariants.{Run, Live, Replay, Plan, Asm, Points, Relog, Stress, Blocks, Visi, Advise, Direct}
+use Rattle.command_words.specs.declared.requests.Request.TheVariants.{Run, Live, Replay, Plan, Asm, Points, Relog, Stress, Blocks, Visi, Advise, Direct, Profile, Annotate}
 use Rattle.command_words.specs.declared.requests.SessionRequest.{SessionRequest}
 use Rattle.command_words.specs.declared.requests.RunRequest.{RunRequest}
 use Rattle.command_words.specs.declared.requests.LiveRequest.{LiveRequest}
@@ -13,6 +15,9 @@ use Rattle.command_words.specs.declared.requests.ReplayRequest.{ReplayRequest}
 use Rattle.command_words.specs.declared.requests.PlanRequest.{PlanRequest}
 use Rattle.command_words.specs.declared.requests.StressRequest.{StressRequest}
 use Rattle.command_words.specs.declared.requests.BlocksRequest.{BlocksRequest}
+use Rattle.command_words.specs.declared.requests.ProfileSource.{ProfileSource}
+use Rattle.command_words.specs.declared.requests.ProfileRequest.{ProfileRequest}
+use Rattle.command_words.specs.declared.requests.AnnotateRequest.{AnnotateRequest}
 use Rattle.command_words.specs.declared.requests.VisiRequest.{VisiRequest}
 use Rattle.command_words.specs.declared.requests.DirectRequest.{DirectRequest}
 
@@ -43,6 +48,15 @@ asked_visi r = record { session = asked_session r.session; order = r.order; view
 abbrev pub asked_direct : DirectRequest → request.DirectRequest
 asked_direct r = record { session = asked_session r.session; directives = r.directives.now; order = r.order }
 
+abbrev pub asked_source : ProfileSource → request.ProfileSource
+asked_source r = record { counted = asked_blocks r.counted; also = option_map_or (λ s. addresses_of s.now) r.also [] }
+
+abbrev pub asked_profile : ProfileRequest → request.ProfileRequest
+asked_profile r = record { source = asked_source r.source; shape = r.shape; top = r.top; callgrind = option_map (λ s. s.now) r.callgrind }
+
+abbrev pub asked_annotate : AnnotateRequest → request.AnnotateRequest
+asked_annotate r = record { source = asked_source r.source; procedure = option_map (λ s. s.now) r.procedure }
+
 abbrev pub asked : Request → request.Request
 asked (Run r) = request.run (asked_run r)
 asked (Live r) = request.live (asked_live r)
@@ -56,6 +70,8 @@ asked (Blocks r) = request.blocks (asked_blocks r)
 asked (Visi r) = request.visi (asked_visi r)
 asked (Advise report) = request.advise report.now
 asked (Direct r) = request.direct (asked_direct r)
+asked (Profile r) = request.profile (asked_profile r)
+asked (Annotate r) = request.annotate (asked_annotate r)
 
 -- the values that clap's matches hold
 abbrev pub given_by : ArgMatches → Given

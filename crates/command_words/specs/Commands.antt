@@ -3,10 +3,10 @@ use Rattle.std.specs.Prelude.{List, [], ◌∷◌, Option, codes, find}
 use Rattle.std.specs.Str.{bytes_eq}
 use Rattle.command_words.specs.Grammar.{Text, Form}
 use Rattle.command_words.specs.declared.commands.CommandName.{CommandName}
-use Rattle.command_words.specs.declared.commands.CommandName.TheVariants.{Run, Live, Replay, Asm, Points, Plan, Stress, Relog, Blocks, Visi, Advise, Direct}
+use Rattle.command_words.specs.declared.commands.CommandName.TheVariants.{Run, Live, Replay, Asm, Points, Plan, Stress, Relog, Blocks, Visi, Advise, Direct, Profile, Annotate}
 
 abbrev pub commands : List CommandName
-commands = Run ∷ Live ∷ Replay ∷ Asm ∷ Points ∷ Plan ∷ Stress ∷ Relog ∷ Blocks ∷ Visi ∷ Advise ∷ Direct ∷ []
+commands = Run ∷ Live ∷ Replay ∷ Asm ∷ Points ∷ Plan ∷ Stress ∷ Relog ∷ Blocks ∷ Visi ∷ Advise ∷ Direct ∷ Profile ∷ Annotate ∷ []
 
 abbrev pub form_of : CommandName → Form
 form_of Run = record {
@@ -48,6 +48,16 @@ form_of Direct = record {
   places = codes "program" ∷ codes "conf" ∷ codes "directives" ∷ [];
   options = codes "harts" ∷ codes "seed"
       ∷ codes "quantum" ∷ codes "budget" ∷ codes "bins" ∷ codes "width" ∷ codes "instruments" ∷ codes "start" ∷ [];
+}
+form_of Profile = record {
+  word = codes "profile";
+  places = codes "program" ∷ [];
+  options = codes "harts" ∷ codes "seed" ∷ codes "quantum" ∷ codes "budget" ∷ codes "also" ∷ codes "show" ∷ codes "top" ∷ codes "callgrind" ∷ [];
+}
+form_of Annotate = record {
+  word = codes "annotate";
+  places = codes "program" ∷ [];
+  options = codes "harts" ∷ codes "seed" ∷ codes "quantum" ∷ codes "budget" ∷ codes "also" ∷ codes "procedure" ∷ [];
 }
 
 -- the command whose own word this is

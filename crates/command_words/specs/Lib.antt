@@ -1,6 +1,7 @@
 pub mod Grammar
 pub mod Commands
 pub mod Numbers
+pub mod Addresses
 pub mod Requests
 pub mod Apps
 pub mod Logs

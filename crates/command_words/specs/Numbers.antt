@@ -45,6 +45,10 @@ views_option = record { name = codes "views"; least = 1; most = 8; default = 2 }
 abbrev pub instruments_option : NumberOption
 instruments_option = record { name = codes "instruments"; least = 1; most = MAX_INSTRUMENTS; default = 64 }
 
+-- how many procedures a table of a profile has, at most
+abbrev pub top_option : NumberOption
+top_option = record { name = codes "top"; least = 1; most = 1000000; default = 20 }
+
 -- the number that an option gives, or its default where it isn't given
 abbrev pub number_given : Given → NumberOption → Option ℕ
 number_given given option = option_map_or (number_between option.least option.most) (given option.name) (Some option.default)

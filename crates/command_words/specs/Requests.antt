@@ -8,10 +8,13 @@ use Rattle.pn_types.specs.declared.settings.Settings.{Settings}
 use Rattle.pn_types.specs.declared.settings.Start.{Start}
 use Rattle.pn_types.specs.declared.settings.Start.TheVariants.{Cold, Warm}
 use Rattle.command_words.specs.Grammar.{Text, Given, given_in, taken_of}
+use Rattle.command_words.specs.Addresses.{also_given}
 use Rattle.command_words.specs.Commands.{form_of, command_named}
-use Rattle.command_words.specs.Numbers.{number_between, number_given, harts_option, workers_option, seed_option, quantum_option, budget_option, bins_option, width_option, instruments_option, views_option}
+use Rattle.command_words.specs.Numbers.{number_between, number_given, harts_option, workers_option, seed_option, quantum_option, budget_option, bins_option, width_option, instruments_option, views_option, top_option}
 use Rattle.command_words.specs.declared.commands.CommandName.{CommandName}
-use Rattle.command_words.specs.declared.commands.CommandName.TheVariants.{Run, Live, Replay, Asm, Points, Plan, Stress, Relog, Blocks, Visi, Advise, Direct}
+use Rattle.command_words.specs.declared.commands.CommandName.TheVariants.{Run, Live, Replay, Asm, Points, Plan, Stress, Relog, Blocks, Visi, Advise, Direct, Profile, Annotate}
+use Rattle.command_words.specs.declared.requests.ProfileShape.{ProfileShape}
+use Rattle.command_words.specs.declared.requests.ProfileShape.TheVariants.{Lines, Words, Table}
 use Rattle.command_words.specs.declared.requests.TurnOrder.{TurnOrder}
 
 -- ---- values
@@ -87,6 +90,22 @@ pub record BlocksRequest : Type 0 where
   pub budget : ℕ
   pub order : TurnOrder
 
+-- What a profile is of: a run of a program, and addresses at which a block begins beside those that its words tell.
+pub record ProfileSource : Type 0 where
+  pub counted : BlocksRequest
+  pub also : List ℕ
+
+pub record ProfileRequest : Type 0 where
+  pub source : ProfileSource
+  pub shape : ProfileShape
+  -- how many procedures a table has, at most
+  pub top : ℕ
+  pub callgrind : Option Text
+
+pub record AnnotateRequest : Type 0 where
+  pub source : ProfileSource
+  pub procedure : Option Text
+
 pub record VisiRequest : Type 0 where
   pub session : SessionRequest
   pub order : TurnOrder
@@ -112,6 +131,8 @@ pub data Request : Type 0 where
   visi : VisiRequest → Request
   advise : Text → Request
   direct : DirectRequest → Request
+  profile : ProfileRequest → Request
+  annotate : AnnotateRequest → Request
 
 -- ---- from values to requests
 
@@ -169,13 +190,42 @@ stress_request given =
     (number_between 0 4294967295 (place_in given (codes "seed"))))
     (number_between 1 200 (place_in given (codes "procs")))
 
-abbrev pub blocks_request : Given → Option Request
-blocks_request given =
+-- a run whose blocks are counted
+abbrev pub blocks_of : Given → Option BlocksRequest
+blocks_of given =
     option_and_then (λ harts. option_and_then (λ budget. option_map (λ order.
-    blocks (record { program = place_in given (codes "program"); harts = harts; budget = budget; order = order }))
+    record { program = place_in given (codes "program"); harts = harts; budget = budget; order = order })
     (order_of given))
     (number_given given budget_option))
     (number_given given harts_option)
+
+abbrev pub profile_source : Given → Option ProfileSource
+profile_source given =
+    option_and_then (λ counted. option_map (λ also. record { counted = counted; also = also }) (also_given given)) (blocks_of given)
+
+-- `lines`, `words` or `table`
+abbrev pub shape_named : Text → Option ProfileShape
+shape_named text =
+    if bytes_eq text (codes "lines") then Some Lines
+    else if bytes_eq text (codes "words") then Some Words
+    else if bytes_eq text (codes "table") then Some Table
+    else None
+
+-- the shape that is given, or `lines` where none is
+abbrev pub shape_given : Given → Option ProfileShape
+shape_given given = option_map_or shape_named (given (codes "show")) (Some Lines)
+
+abbrev pub profile_request : Given → Option Request
+profile_request given =
+    option_and_then (λ source. option_and_then (λ shape. option_map (λ top.
+    profile (record { source = source; shape = shape; top = top; callgrind = given (codes "callgrind") }))
+    (number_given given top_option))
+    (shape_given given))
+    (profile_source given)
+
+abbrev pub annotate_request : Given → Option Request
+annotate_request given =
+    option_map (λ source. annotate (record { source = source; procedure = given (codes "procedure") })) (profile_source given)
 
 abbrev pub visi_request : Given → Option Request
 visi_request given =
@@ -201,10 +251,12 @@ request_from Points given = Some (points (place_in given (codes "program")))
 request_from Plan given = plan_request given
 request_from Stress given = stress_request given
 request_from Relog given = Some (relog (place_in given (codes "record")))
-request_from Blocks given = blocks_request given
+request_from Blocks given = option_map blocks (blocks_of given)
 request_from Visi given = visi_request given
 request_from Advise given = Some (advise (place_in given (codes "report")))
 request_from Direct given = direct_request given
+request_from Profile given = profile_request given
+request_from Annotate given = annotate_request given
 
 -- What the words ask for; none where they are no command.
 abbrev pub request_of : List Text → Option Request
@@ -234,6 +286,8 @@ IsUnthreaded (blocks r) = Unit {0}
 IsUnthreaded (visi r) = ⊥
 IsUnthreaded (advise report) = Unit {0}
 IsUnthreaded (direct r) = Unit {0}
+IsUnthreaded (profile r) = Unit {0}
+IsUnthreaded (annotate r) = Unit {0}
 
 -- ---- ranges
 
@@ -242,6 +296,9 @@ IsQuantum turns = (1 ≤ turns) × (turns ≤ MAX_QUANTUM)
 
 abbrev pub IsOrderInRange : TurnOrder → Type 0
 IsOrderInRange order = (order.seed < 2 ^ 32) × IsQuantum order.quantum
+
+abbrev pub IsBlocksInRange : BlocksRequest → Type 0
+IsBlocksInRange r = ((1 ≤ r.harts) × (r.harts ≤ MAX_HARTS)) × ((1 ≤ r.budget) × (r.budget ≤ MAX_BUDGET)) × IsOrderInRange r.order
 
 -- the numbers of a request are in their ranges
 abbrev pub HasRanges : Request → Type 0
@@ -253,7 +310,9 @@ HasRanges (asm text) = Unit {0}
 HasRanges (points program) = Unit {0}
 HasRanges (relog log) = Unit {0}
 HasRanges (stress r) = ((1 ≤ r.procs) × (r.procs ≤ 200)) × (r.seed < 2 ^ 32)
-HasRanges (blocks r) = ((1 ≤ r.harts) × (r.harts ≤ MAX_HARTS)) × ((1 ≤ r.budget) × (r.budget ≤ MAX_BUDGET)) × IsOrderInRange r.order
+HasRanges (blocks r) = IsBlocksInRange r
 HasRanges (visi r) = AreInRange r.session.settings × IsOrderInRange r.order × ((1 ≤ r.views) × (r.views ≤ 8))
 HasRanges (advise report) = Unit {0}
 HasRanges (direct r) = AreInRange r.session.settings × IsOrderInRange r.order
+HasRanges (profile r) = IsBlocksInRange r.source.counted × ((1 ≤ r.top) × (r.top ≤ 1000000))
+HasRanges (annotate r) = IsBlocksInRange r.source.counted

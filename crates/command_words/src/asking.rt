@@ -1,21 +1,24 @@
 //! Reads what words ask for.
 
-ghost use Rattle.std.specs.Prelude.{◌≡◌, ◌≤◌, MatchResult, IfOk, IfSome, Some, None, map, option_map, string_bytes};
-ghost use Rattle.command_words.specs.Asked.{asked, asked_session};
+ghost use Rattle.std.specs.Prelude.{◌≡◌, ◌≤◌, is_some, MatchResult, IfOk, IfSome, Some, None, map, option_map, string_bytes};
+ghost use Rattle.command_words.specs.Addresses.{also_told};
+ghost use Rattle.command_words.specs.Asked.{asked, asked_blocks, asked_session, asked_source};
 ghost use Rattle.command_words.specs.Numbers.{number_between, number_given};
-ghost use Rattle.command_words.specs.Requests.{place_in, session_of, settings_of, order_of, start_given, start_named, run_request, live_request, plan_request, stress_request, blocks_request, visi_request, direct_request, request_from, request_of, begins_threaded, HasRanges, IsOrderInRange};
+ghost use Rattle.command_words.specs.Requests.{place_in, session_of, settings_of, order_of, start_given, start_named, run_request, live_request, plan_request, stress_request, blocks_of, visi_request, direct_request, profile_source, shape_named, shape_given, profile_request, annotate_request, request_from, request_of, begins_threaded, HasRanges, IsBlocksInRange, IsOrderInRange};
 ghost use Rattle.command_words.specs.Walked.{option_seen};
 ghost use Rattle.pn_types.specs.Settings.{AreInRange};
 
+use crate::address_list::are_addresses;
 use crate::commands::CommandName;
 use crate::given::Given;
 use crate::matching::{WordFault, matches};
 use crate::numbers::{
-    BINS, BUDGET, HARTS, INSTRUMENTS, NumberOption, QUANTUM, SEED, VIEWS, WIDTH, WORKERS,
+    BINS, BUDGET, HARTS, INSTRUMENTS, NumberOption, QUANTUM, SEED, TOP, VIEWS, WIDTH, WORKERS,
 };
 use crate::requests::{
-    BlocksRequest, DirectRequest, LiveRequest, PlanRequest, ReplayRequest, Request, RunRequest,
-    SessionRequest, StressRequest, TurnOrder, VisiRequest,
+    AnnotateRequest, BlocksRequest, DirectRequest, LiveRequest, PlanRequest, ProfileRequest,
+    ProfileShape, ProfileSource, ReplayRequest, Request, RunRequest, SessionRequest, StressRequest,
+    TurnOrder, VisiRequest,
 };
 use pn_text::number;
 use pn_types::{Settings, Start};
@@ -170,18 +173,89 @@ fn stress_request<'a, G: Given<'a>>(given: &G) -> Option<Request<'a>>
     }))
 }
 
-fn blocks_request<'a, G: Given<'a>>(given: &G) -> Option<Request<'a>>
-    ensures request { option_map asked result ≡ blocks_request (G.given given.now) }
-    ensures ranges { IfSome result (λ request. HasRanges (asked request)) }
+fn blocks<'a, G: Given<'a>>(given: &G) -> Option<BlocksRequest<'a>>
+    ensures request { option_map asked_blocks result ≡ blocks_of (G.given given.now) }
+    ensures ranges { IfSome result (λ request. IsBlocksInRange (asked_blocks request)) }
 {
     let harts = number_given(given, HARTS)?;
     let budget = number_given(given, BUDGET)?;
     let order = order(given)?;
-    Some(Request::Blocks(BlocksRequest {
+    Some(BlocksRequest {
         program: place(given, "program"),
         harts: harts as u32,
         budget,
         order,
+    })
+}
+
+/// Returns whether each part of the text of `also` is an address, where it is given.
+fn is_also_good(also: Option<&str>) -> bool
+    ensures { result ≡ is_some (also_told (option_map (λ s. s.now) also.entry)) }
+{
+    match also {
+        Some(text) => are_addresses(text.as_bytes()),
+        None => true,
+    }
+}
+
+fn profile_source<'a, G: Given<'a>>(given: &G) -> Option<ProfileSource<'a>>
+    ensures source { option_map asked_source result ≡ profile_source (G.given given.now) }
+    ensures ranges { IfSome result (λ source. IsBlocksInRange (asked_source source).counted) }
+{
+    let counted = blocks(given)?;
+    let also = given.value("also");
+    if is_also_good(also) {
+        Some(ProfileSource { counted, also })
+    } else {
+        None
+    }
+}
+
+/// Returns the shape of this name.
+fn shape_named(text: &str) -> Option<ProfileShape>
+    ensures { result ≡ shape_named text.now }
+{
+    match text {
+        "lines" => Some(ProfileShape::Lines),
+        "words" => Some(ProfileShape::Words),
+        "table" => Some(ProfileShape::Table),
+        _ => None,
+    }
+}
+
+/// Returns the shape that is given, or lines where none is.
+fn shape_given<'a, G: Given<'a>>(given: &G) -> Option<ProfileShape>
+    ensures { result ≡ shape_given (G.given given.now) }
+{
+    match given.value("show") {
+        Some(text) => shape_named(text),
+        None => Some(ProfileShape::Lines),
+    }
+}
+
+fn profile_request<'a, G: Given<'a>>(given: &G) -> Option<Request<'a>>
+    ensures request { option_map asked result ≡ profile_request (G.given given.now) }
+    ensures ranges { IfSome result (λ request. HasRanges (asked request)) }
+{
+    let source = profile_source(given)?;
+    let shape = shape_given(given)?;
+    let top = number_given(given, TOP)?;
+    Some(Request::Profile(ProfileRequest {
+        source,
+        shape,
+        top: top as u32,
+        callgrind: given.value("callgrind"),
+    }))
+}
+
+fn annotate_request<'a, G: Given<'a>>(given: &G) -> Option<Request<'a>>
+    ensures request { option_map asked result ≡ annotate_request (G.given given.now) }
+    ensures ranges { IfSome result (λ request. HasRanges (asked request)) }
+{
+    let source = profile_source(given)?;
+    Some(Request::Annotate(AnnotateRequest {
+        source,
+        procedure: given.value("procedure"),
     }))
 }
 
@@ -230,10 +304,12 @@ pub fn request_from<'a, G: Given<'a>>(name: CommandName, given: &G) -> Option<Re
         CommandName::Plan => plan_request(given),
         CommandName::Stress => stress_request(given),
         CommandName::Relog => Some(Request::Relog(place(given, "record"))),
-        CommandName::Blocks => blocks_request(given),
+        CommandName::Blocks => Some(Request::Blocks(blocks(given)?)),
         CommandName::Visi => visi_request(given),
         CommandName::Advise => Some(Request::Advise(place(given, "report"))),
         CommandName::Direct => direct_request(given),
+        CommandName::Profile => profile_request(given),
+        CommandName::Annotate => annotate_request(given),
     }
 }
 

@@ -22,10 +22,12 @@ pub enum CommandName {
     Visi,
     Advise,
     Direct,
+    Profile,
+    Annotate,
 }
 
 /// All commands.
-const COMMANDS: [CommandName; 12] = [
+const COMMANDS: [CommandName; 14] = [
     CommandName::Run,
     CommandName::Live,
     CommandName::Replay,
@@ -38,6 +40,8 @@ const COMMANDS: [CommandName; 12] = [
     CommandName::Visi,
     CommandName::Advise,
     CommandName::Direct,
+    CommandName::Profile,
+    CommandName::Annotate,
 ];
 
 const RUN_OPTIONS: [&str; 9] = [
@@ -89,8 +93,21 @@ const DIRECT_OPTIONS: [&str; 8] = [
     "start",
 ];
 
+const PROFILE_OPTIONS: [&str; 8] = [
+    "harts",
+    "seed",
+    "quantum",
+    "budget",
+    "also",
+    "show",
+    "top",
+    "callgrind",
+];
+
+const ANNOTATE_OPTIONS: [&str; 6] = ["harts", "seed", "quantum", "budget", "also", "procedure"];
+
 /// What each command takes, in the order of the commands.
-const FORMS: [Form; 12] = [
+const FORMS: [Form; 14] = [
     Form {
         word: "run",
         places: &["program", "conf"],
@@ -150,6 +167,16 @@ const FORMS: [Form; 12] = [
         word: "direct",
         places: &["program", "conf", "directives"],
         options: &DIRECT_OPTIONS,
+    },
+    Form {
+        word: "profile",
+        places: &["program"],
+        options: &PROFILE_OPTIONS,
+    },
+    Form {
+        word: "annotate",
+        places: &["program"],
+        options: &ANNOTATE_OPTIONS,
     },
 ];
 

@@ -1,6 +1,7 @@
 //! The words of the command line: which command they are, and what they ask for.
 #![tactic(auto)]
 
+mod address_list;
 mod asking;
 mod builders;
 mod commands;
@@ -15,12 +16,14 @@ mod values;
 mod walking;
 mod word_kind;
 
+pub use address_list::addresses;
 pub use asking::{begin_threaded, read_request};
 pub use commands::CommandName;
 pub use logging::log_name;
 pub use matching::WordFault;
 pub use numbers::MAX_VIEWS;
 pub use requests::{
-    BlocksRequest, DirectRequest, LiveRequest, PlanRequest, ReplayRequest, Request, RunRequest,
-    SessionRequest, StressRequest, TurnOrder, VisiRequest,
+    AnnotateRequest, BlocksRequest, DirectRequest, LiveRequest, PlanRequest, ProfileRequest,
+    ProfileShape, ProfileSource, ReplayRequest, Request, RunRequest, SessionRequest, StressRequest,
+    TurnOrder, VisiRequest,
 };

@@ -84,6 +84,14 @@ pub const VIEWS: NumberOption<'static> = NumberOption {
     default: 2,
 };
 
+/// The procedures of a table, at most.
+pub const TOP: NumberOption<'static> = NumberOption {
+    name: "top",
+    least: 1,
+    most: 1_000_000,
+    default: 20,
+};
+
 /// The instruments that are allowed at once.
 pub const INSTRUMENTS: NumberOption<'static> = NumberOption {
     name: "instruments",

@@ -90,6 +90,45 @@ pub struct BlocksRequest<'a> {
     pub order: TurnOrder,
 }
 
+/// What a profile is of.
+#[derive(Clone, Copy, Drop)]
+pub struct ProfileSource<'a> {
+    /// The run whose blocks are counted.
+    pub counted: BlocksRequest<'a>,
+    /// Addresses at which a block begins beside those that the program's words tell, parted by commas.
+    pub also: Option<&'a str>,
+}
+
+/// The shape in which a profile is shown.
+#[derive(Clone, Copy, PartialEq, Eq, Drop)]
+pub enum ProfileShape {
+    /// A line for each procedure, call and loop.
+    Lines,
+    /// The lines, and one for each word.
+    Words,
+    /// A table of the procedures for a person.
+    Table,
+}
+
+/// What `profile` is asked for.
+#[derive(Clone, Copy, Drop)]
+pub struct ProfileRequest<'a> {
+    pub source: ProfileSource<'a>,
+    pub shape: ProfileShape,
+    /// How many procedures a table has, at most, from 1 to 1,000,000.
+    pub top: u32,
+    /// The name of the file for callgrind's tools, where one is wanted.
+    pub callgrind: Option<&'a str>,
+}
+
+/// What `annotate` is asked for.
+#[derive(Clone, Copy, Drop)]
+pub struct AnnotateRequest<'a> {
+    pub source: ProfileSource<'a>,
+    /// The procedure whose words are shown: its name, or its module's, a slash and its name. All are where none is given.
+    pub procedure: Option<&'a str>,
+}
+
 /// What `visi` is asked for.
 #[derive(Clone, Copy, Drop)]
 pub struct VisiRequest<'a> {
@@ -135,4 +174,8 @@ pub enum Request<'a> {
     Advise(&'a str),
     /// To run a program under search directives.
     Direct(DirectRequest<'a>),
+    /// To profile a program.
+    Profile(ProfileRequest<'a>),
+    /// To show the words of a program with how often each is executed.
+    Annotate(AnnotateRequest<'a>),
 }

@@ -20,7 +20,7 @@ returns-in_err-request_from c =
 
 pub returns : goal.returns
 returns c =
-    c.value.ensures
+    c.log_given.ensures
     ∙ sym (log_is (map string_bytes c.args.words.now) (string_bytes c.in_ok-first.first.now) (map string_bytes c.in_ok-first.others.now) c.in_ok-command.command (form_seen c.form-form.result) (Some (values_seen c.in_ok-values.values))
     (ap (map string_bytes) c.in_ok-first.ensures.cases.0) (search rules) c.form-form.ensures c.in_ok-values.ensures
     ∙ some_asked c.in_ok-command.command (form_seen c.form-form.result) (values_seen c.in_ok-values.values) (asked c.in_ok-request_from.field-0) c.in_ok-request_from.ensures.request)
