@@ -30,3 +30,8 @@ mod token;
 
 pub use assembling::assemble;
 pub use fault::{AsmError, AsmFault};
+pub use named::{NAMED_FORMS, NamedForm};
+pub use number::Number;
+pub use plain_forms::{PLAIN_FORMS, PlainForm};
+pub use registers::USUAL_NAMES;
+pub use statement::{Statement, ValueWidth};

@@ -16,7 +16,7 @@ use rv_word::{BranchOp, Instr};
 
 /// The operands of a statement with a name or a string, and what they make.
 #[derive(Clone, Copy)]
-pub(crate) enum NamedForm {
+pub enum NamedForm {
     /// `rs1, rs2, NAME`
     Branch(BranchOp),
     /// `rs, NAME`, a branch on the register and zero
@@ -34,7 +34,7 @@ pub(crate) enum NamedForm {
 }
 
 /// The names of these statements.
-const NAMED_FORMS: [(&[u8], NamedForm); 16] = [
+pub const NAMED_FORMS: [(&[u8], NamedForm); 16] = [
     (b"beq", NamedForm::Branch(BranchOp::Beq)),
     (b"bne", NamedForm::Branch(BranchOp::Bne)),
     (b"blt", NamedForm::Branch(BranchOp::Blt)),

@@ -6,9 +6,9 @@ ghost use Rattle.rv_asm.specs.Numbers.{digit_of, below, digits_from, digits_of, 
 
 /// A number of any size. A size of 2^64 and above stands as 2^64.
 #[derive(Clone, Copy)]
-pub(crate) struct Number {
-    pub(crate) negative: bool,
-    pub(crate) size: u128,
+pub struct Number {
+    pub negative: bool,
+    pub size: u128,
 }
 
 const SIZE_LIMIT: u128 = 1 << 64;

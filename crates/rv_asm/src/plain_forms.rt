@@ -5,7 +5,7 @@ use rv_word::{AmoOp, AtomicWidth, ImmOp, Instr, LoadOp, RegOp, RegOp32, ShiftOp,
 
 /// The operands of a statement without a name or a string, and what they make.
 #[derive(Clone, Copy)]
-pub(crate) enum PlainForm {
+pub enum PlainForm {
     /// No operands.
     Fixed(Statement),
     /// `rd, rs1, rs2`
@@ -51,7 +51,7 @@ pub(crate) enum PlainForm {
 }
 
 /// The names of these statements.
-pub(crate) const PLAIN_FORMS: [(&[u8], PlainForm); 94] = [
+pub const PLAIN_FORMS: [(&[u8], PlainForm); 94] = [
     (
         b"ebreak",
         PlainForm::Fixed(Statement::Instruction(Instr::Ebreak)),

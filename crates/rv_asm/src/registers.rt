@@ -42,7 +42,7 @@ const NUMBERED_NAMES: [(&[u8], u32); 32] = [
 ];
 
 /// The registers by the names of the calling convention.
-const USUAL_NAMES: [(&[u8], u32); 32] = [
+pub const USUAL_NAMES: [(&[u8], u32); 32] = [
     (b"zero", 0),
     (b"ra", 1),
     (b"sp", 2),

@@ -5,7 +5,7 @@ use rv_word::Instr;
 
 /// How many bytes a value has.
 #[derive(Clone, Copy)]
-pub(crate) enum ValueWidth {
+pub enum ValueWidth {
     /// One, `.byte`.
     Byte,
     /// Two, `.half`.
@@ -18,7 +18,7 @@ pub(crate) enum ValueWidth {
 
 /// What stands after the labels of a line. A name or a string that it has stands beside it.
 #[derive(Clone, Copy)]
-pub(crate) enum Statement {
+pub enum Statement {
     /// Nothing.
     Empty,
     /// `.text`
