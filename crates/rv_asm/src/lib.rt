@@ -34,4 +34,5 @@ pub use named::{NAMED_FORMS, NamedForm};
 pub use number::Number;
 pub use plain_forms::{PLAIN_FORMS, PlainForm};
 pub use registers::USUAL_NAMES;
+pub use second_pass::reaches;
 pub use statement::{Statement, ValueWidth};

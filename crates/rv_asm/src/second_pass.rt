@@ -144,7 +144,7 @@ fn reach(instr: &Instr) -> u128
 }
 
 /// Whether the jump or branch at the address reaches the target.
-fn reaches(instr: &Instr, at: u128, target: u128) -> bool
+pub fn reaches(instr: &Instr, at: u128, target: u128) -> bool
     ensures value { result ≡ reaches instr.now at target }
     ensures back { result ≡ true → at ≤ target + 1048576 }
     ensures ahead { result ≡ true → target ≤ at + 1048576 }
