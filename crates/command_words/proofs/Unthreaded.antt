@@ -6,7 +6,7 @@ use Rattle.std.specs.Str.{bytes_eq}
 use Rattle.command_words.specs.Commands.{commands, form_of}
 use Rattle.command_words.specs.Grammar.{Text, Given, given_in, taken_of}
 use Rattle.command_words.specs.Numbers.{number_between, number_given, harts_option, top_option}
-use Rattle.command_words.specs.Requests.{Request, begins_threaded, IsUnthreaded, place_in, request_from, request_of, session_of, order_of, blocks_of, profile_source, shape_given}
+use Rattle.command_words.specs.Requests.{Request, begins_threaded, IsUnthreaded, place_in, request_from, request_of, session_of, order_of, blocks_of, profile_source, shape_given, unit_given}
 use Rattle.command_words.specs.declared.commands.CommandName.{CommandName}
 use Rattle.command_words.specs.declared.commands.CommandName.TheVariants.{Run, Live, Replay, Asm, Points, Plan, Stress, Relog, Blocks, Visi, Advise, Direct, Profile, Annotate}
 
@@ -42,7 +42,7 @@ module _ (given : Given) where
       chained _ (profile_source given) (λ source. chained _ (shape_given given) (λ shape. mapped _ (number_given given top_option) (λ top. tt)))
 
   annotate_begins_none : AskUnthreaded (request_from Annotate given)
-  annotate_begins_none = mapped _ (profile_source given) (λ source. tt)
+  annotate_begins_none = chained _ (profile_source given) (λ source. mapped _ (unit_given given) (λ by. tt))
 
   direct_begins_none : AskUnthreaded (request_from Direct given)
   direct_begins_none =

@@ -55,7 +55,7 @@ abbrev pub asked_profile : ProfileRequest → request.ProfileRequest
 asked_profile r = record { source = asked_source r.source; shape = r.shape; top = r.top; callgrind = option_map (λ s. s.now) r.callgrind }
 
 abbrev pub asked_annotate : AnnotateRequest → request.AnnotateRequest
-asked_annotate r = record { source = asked_source r.source; procedure = option_map (λ s. s.now) r.procedure }
+asked_annotate r = record { source = asked_source r.source; procedure = option_map (λ s. s.now) r.procedure; unit = r.unit }
 
 abbrev pub asked : Request → request.Request
 asked (Run r) = request.run (asked_run r)

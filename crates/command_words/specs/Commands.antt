@@ -57,7 +57,7 @@ form_of Profile = record {
 form_of Annotate = record {
   word = codes "annotate";
   places = codes "program" ∷ [];
-  options = codes "harts" ∷ codes "seed" ∷ codes "quantum" ∷ codes "budget" ∷ codes "also" ∷ codes "procedure" ∷ [];
+  options = codes "harts" ∷ codes "seed" ∷ codes "quantum" ∷ codes "budget" ∷ codes "also" ∷ codes "procedure" ∷ codes "by" ∷ [];
 }
 
 -- the command whose own word this is

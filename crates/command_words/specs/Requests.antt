@@ -13,6 +13,8 @@ use Rattle.command_words.specs.Commands.{form_of, command_named}
 use Rattle.command_words.specs.Numbers.{number_between, number_given, harts_option, workers_option, seed_option, quantum_option, budget_option, bins_option, width_option, instruments_option, views_option, top_option}
 use Rattle.command_words.specs.declared.commands.CommandName.{CommandName}
 use Rattle.command_words.specs.declared.commands.CommandName.TheVariants.{Run, Live, Replay, Asm, Points, Plan, Stress, Relog, Blocks, Visi, Advise, Direct, Profile, Annotate}
+use Rattle.command_words.specs.declared.requests.AnnotationUnit.{AnnotationUnit}
+use Rattle.command_words.specs.declared.requests.AnnotationUnit.TheVariants as unit
 use Rattle.command_words.specs.declared.requests.ProfileShape.{ProfileShape}
 use Rattle.command_words.specs.declared.requests.ProfileShape.TheVariants.{Lines, Words, Table}
 use Rattle.command_words.specs.declared.requests.TurnOrder.{TurnOrder}
@@ -105,6 +107,7 @@ pub record ProfileRequest : Type 0 where
 pub record AnnotateRequest : Type 0 where
   pub source : ProfileSource
   pub procedure : Option Text
+  pub unit : AnnotationUnit
 
 pub record VisiRequest : Type 0 where
   pub session : SessionRequest
@@ -215,6 +218,14 @@ shape_named text =
 abbrev pub shape_given : Given → Option ProfileShape
 shape_given given = option_map_or shape_named (given (codes "show")) (Some Lines)
 
+-- `words` or `lines`
+abbrev pub unit_named : Text → Option AnnotationUnit
+unit_named text = if bytes_eq text (codes "words") then Some unit.Words else if bytes_eq text (codes "lines") then Some unit.Lines else None
+
+-- the unit that is given, or `words` where none is
+abbrev pub unit_given : Given → Option AnnotationUnit
+unit_given given = option_map_or unit_named (given (codes "by")) (Some unit.Words)
+
 abbrev pub profile_request : Given → Option Request
 profile_request given =
     option_and_then (λ source. option_and_then (λ shape. option_map (λ top.
@@ -225,7 +236,10 @@ profile_request given =
 
 abbrev pub annotate_request : Given → Option Request
 annotate_request given =
-    option_map (λ source. annotate (record { source = source; procedure = given (codes "procedure") })) (profile_source given)
+    option_and_then (λ source. option_map (λ by.
+    annotate (record { source = source; procedure = given (codes "procedure"); unit = by }))
+    (unit_given given))
+    (profile_source given)
 
 abbrev pub visi_request : Given → Option Request
 visi_request given =

@@ -4,7 +4,7 @@ ghost use Rattle.std.specs.Prelude.{◌≡◌, ◌≤◌, is_some, MatchResult, 
 ghost use Rattle.command_words.specs.Addresses.{also_told};
 ghost use Rattle.command_words.specs.Asked.{asked, asked_blocks, asked_session, asked_source};
 ghost use Rattle.command_words.specs.Numbers.{number_between, number_given};
-ghost use Rattle.command_words.specs.Requests.{place_in, session_of, settings_of, order_of, start_given, start_named, run_request, live_request, plan_request, stress_request, blocks_of, visi_request, direct_request, profile_source, shape_named, shape_given, profile_request, annotate_request, request_from, request_of, begins_threaded, HasRanges, IsBlocksInRange, IsOrderInRange};
+ghost use Rattle.command_words.specs.Requests.{place_in, session_of, settings_of, order_of, start_given, start_named, run_request, live_request, plan_request, stress_request, blocks_of, visi_request, direct_request, profile_source, shape_named, shape_given, unit_named, unit_given, profile_request, annotate_request, request_from, request_of, begins_threaded, HasRanges, IsBlocksInRange, IsOrderInRange};
 ghost use Rattle.command_words.specs.Walked.{option_seen};
 ghost use Rattle.pn_types.specs.Settings.{AreInRange};
 
@@ -16,9 +16,9 @@ use crate::numbers::{
     BINS, BUDGET, HARTS, INSTRUMENTS, NumberOption, QUANTUM, SEED, TOP, VIEWS, WIDTH, WORKERS,
 };
 use crate::requests::{
-    AnnotateRequest, BlocksRequest, DirectRequest, LiveRequest, PlanRequest, ProfileRequest,
-    ProfileShape, ProfileSource, ReplayRequest, Request, RunRequest, SessionRequest, StressRequest,
-    TurnOrder, VisiRequest,
+    AnnotateRequest, AnnotationUnit, BlocksRequest, DirectRequest, LiveRequest, PlanRequest,
+    ProfileRequest, ProfileShape, ProfileSource, ReplayRequest, Request, RunRequest,
+    SessionRequest, StressRequest, TurnOrder, VisiRequest,
 };
 use pn_text::number;
 use pn_types::{Settings, Start};
@@ -233,6 +233,27 @@ fn shape_given<'a, G: Given<'a>>(given: &G) -> Option<ProfileShape>
     }
 }
 
+/// Returns the unit of this name.
+fn unit_named(text: &str) -> Option<AnnotationUnit>
+    ensures { result ≡ unit_named text.now }
+{
+    match text {
+        "words" => Some(AnnotationUnit::Words),
+        "lines" => Some(AnnotationUnit::Lines),
+        _ => None,
+    }
+}
+
+/// Returns the unit that is given, or words where none is.
+fn unit_given<'a, G: Given<'a>>(given: &G) -> Option<AnnotationUnit>
+    ensures { result ≡ unit_given (G.given given.now) }
+{
+    match given.value("by") {
+        Some(text) => unit_named(text),
+        None => Some(AnnotationUnit::Words),
+    }
+}
+
 fn profile_request<'a, G: Given<'a>>(given: &G) -> Option<Request<'a>>
     ensures request { option_map asked result ≡ profile_request (G.given given.now) }
     ensures ranges { IfSome result (λ request. HasRanges (asked request)) }
@@ -253,9 +274,11 @@ fn annotate_request<'a, G: Given<'a>>(given: &G) -> Option<Request<'a>>
     ensures ranges { IfSome result (λ request. HasRanges (asked request)) }
 {
     let source = profile_source(given)?;
+    let unit = unit_given(given)?;
     Some(Request::Annotate(AnnotateRequest {
         source,
         procedure: given.value("procedure"),
+        unit,
     }))
 }
 

@@ -104,7 +104,15 @@ const PROFILE_OPTIONS: [&str; 8] = [
     "callgrind",
 ];
 
-const ANNOTATE_OPTIONS: [&str; 6] = ["harts", "seed", "quantum", "budget", "also", "procedure"];
+const ANNOTATE_OPTIONS: [&str; 7] = [
+    "harts",
+    "seed",
+    "quantum",
+    "budget",
+    "also",
+    "procedure",
+    "by",
+];
 
 /// What each command takes, in the order of the commands.
 const FORMS: [Form; 14] = [

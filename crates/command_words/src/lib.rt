@@ -23,7 +23,7 @@ pub use logging::log_name;
 pub use matching::WordFault;
 pub use numbers::MAX_VIEWS;
 pub use requests::{
-    AnnotateRequest, BlocksRequest, DirectRequest, LiveRequest, PlanRequest, ProfileRequest,
-    ProfileShape, ProfileSource, ReplayRequest, Request, RunRequest, SessionRequest, StressRequest,
-    TurnOrder, VisiRequest,
+    AnnotateRequest, AnnotationUnit, BlocksRequest, DirectRequest, LiveRequest, PlanRequest,
+    ProfileRequest, ProfileShape, ProfileSource, ReplayRequest, Request, RunRequest,
+    SessionRequest, StressRequest, TurnOrder, VisiRequest,
 };

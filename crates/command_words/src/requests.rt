@@ -121,12 +121,22 @@ pub struct ProfileRequest<'a> {
     pub callgrind: Option<&'a str>,
 }
 
+/// What is shown with its numbers.
+#[derive(Clone, Copy, PartialEq, Eq, Drop)]
+pub enum AnnotationUnit {
+    /// Each word.
+    Words,
+    /// Each line of source.
+    Lines,
+}
+
 /// What `annotate` is asked for.
 #[derive(Clone, Copy, Drop)]
 pub struct AnnotateRequest<'a> {
     pub source: ProfileSource<'a>,
-    /// The procedure whose words are shown: its name, or its module's, a slash and its name. All are where none is given.
+    /// The procedure that is shown: its name, or its module's, a slash and its name. All are where none is given.
     pub procedure: Option<&'a str>,
+    pub unit: AnnotationUnit,
 }
 
 /// What `visi` is asked for.

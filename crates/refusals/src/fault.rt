@@ -31,6 +31,10 @@ pub enum Fault {
     BadReport(u64),
     /// No procedure of the program has this name.
     NoProcedure(Text),
+    /// The program has no line table.
+    NoLines,
+    /// The line table is faulty at this place, in bytes from its front.
+    BadLines(u64),
 }
 
 impl Fault {
@@ -49,6 +53,7 @@ impl Fault {
             Fault::BadDirectives(_) => 12,
             Fault::BadReport(_) => 13,
             Fault::NoProcedure(_) => 14,
+            Fault::NoLines | Fault::BadLines(_) => 15,
         }
     }
 }

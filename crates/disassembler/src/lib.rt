@@ -1,0 +1,14 @@
+//! The disassembler: the text of a word of a program, as the assembler reads it.
+//!
+//! What the text is, is a definition in `specs/`: `Texts` (a word, its operation's name) and `Operands`.
+#![tactic(auto)]
+
+mod bare;
+mod laws;
+mod mnemonics;
+mod operand;
+mod text;
+
+pub use laws::lines_assemble;
+pub use operand::add_label;
+pub use text::add_instruction;

@@ -1,0 +1,10 @@
+pub mod Names
+pub mod NumberedWords
+pub mod Rows
+pub mod Totals
+pub mod Jumps
+pub mod Lines
+pub mod Callgrind
+pub mod Table
+pub mod Annotated
+pub mod Laws
