@@ -2,7 +2,7 @@
 
 use crate::rows::{CommandRow, Server};
 
-static COMMANDS: [CommandRow; 15] = [
+static COMMANDS: [CommandRow; 17] = [
     CommandRow {
         word: "run",
         server: Server::Paradyn,
@@ -33,6 +33,50 @@ static COMMANDS: [CommandRow; 15] = [
         optional: &["CONF"],
         summary: "What would mislead, before a run",
         example: "Example: pd check words.elf search.conf -n 4",
+    },
+    CommandRow {
+        word: "profile",
+        server: Server::Paradyn,
+        words: &[
+            "PROGRAM",
+            "harts",
+            "seed",
+            "quantum",
+            "budget",
+            "also",
+            "table",
+            "words",
+            "show",
+            "top",
+            "callgrind",
+            "output",
+            "force",
+            "quiet",
+        ],
+        optional: &[],
+        summary: "Where the time goes, by procedure, loop and word",
+        example: "Example: pd profile words.elf -n 4 --top 10",
+    },
+    CommandRow {
+        word: "annotate",
+        server: Server::Paradyn,
+        words: &[
+            "PROGRAM",
+            "PROCEDURE",
+            "harts",
+            "seed",
+            "quantum",
+            "budget",
+            "also",
+            "source",
+            "by",
+            "output",
+            "force",
+            "quiet",
+        ],
+        optional: &["PROCEDURE"],
+        summary: "The words of procedures, with how often each is executed",
+        example: "Example: pd annotate words.elf count -n 4",
     },
     CommandRow {
         word: "live",

@@ -96,8 +96,10 @@ fn add_choices(script: &mut String, word: &WordRow) -> Result<(), NoMemory> {
 
 fn add_word(script: &mut String, word: &WordRow) -> Result<(), NoMemory> {
     match word.kind {
-        Kind::Place => add_choices(script, word),
-        Kind::ServedOption | Kind::OwnOption => add_forms(script, " ", word, " "),
+        Kind::Place | Kind::NamedPlace(_) => add_choices(script, word),
+        Kind::ServedOption | Kind::OwnOption | Kind::Choice(_, _) => add_forms(
+            script, " ", word, " ",
+        ),
     }
 }
 
@@ -136,7 +138,7 @@ fn add_value(script: &mut String, option: &WordRow) -> Result<(), NoMemory> {
 
 fn add_values(script: &mut String) -> Result<(), NoMemory> {
     for word in all_words() {
-        if !matches!(word.kind, Kind::Place) {
+        if !word.kind.is_place() {
             add_value(script, word)?;
         }
     }

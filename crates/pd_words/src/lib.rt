@@ -8,6 +8,7 @@ mod lines;
 mod man;
 mod parser;
 mod rows;
+mod screens;
 mod served;
 mod wishes;
 mod words;

@@ -3,7 +3,7 @@
 use crate::commands::all_commands;
 use crate::lines::{add, add_forms};
 use crate::parser::STATUSES;
-use crate::rows::{CommandRow, Kind, WordRow};
+use crate::rows::{CommandRow, WordRow};
 use crate::words::all_words;
 use pn_types::NoMemory;
 use std::alloc::Global;
@@ -48,10 +48,13 @@ fn add_in_synopsis(
     command: &CommandRow,
     word: &WordRow,
 ) -> Result<(), NoMemory> {
-    match word.kind {
-        Kind::Place if command.needs(word) => add(page, &[" \\fI", word.name, "\\fR"]),
-        Kind::Place => add(page, &[" [\\fI", word.name, "\\fR]"]),
-        Kind::ServedOption | Kind::OwnOption => add(page, &[" [\\fB--", word.name, "\\fR]"]),
+    if !word.kind.is_place() {
+        return add(page, &[" [\\fB--", word.name, "\\fR]"]);
+    }
+    if command.needs(word) {
+        add(page, &[" \\fI", word.name, "\\fR"])
+    } else {
+        add(page, &[" [\\fI", word.name, "\\fR]"])
     }
 }
 
@@ -70,7 +73,7 @@ fn add_command(page: &mut String, command: &CommandRow) -> Result<(), NoMemory> 
 
 /// Adds what a paragraph on a word begins with.
 fn add_tag(page: &mut String, word: &WordRow) -> Result<(), NoMemory> {
-    if let Kind::Place = word.kind {
+    if word.kind.is_place() {
         return add(page, &[".TP\n.I ", word.name]);
     }
     add_forms(page, ".TP\n.B ", word, ", ")?;

@@ -1,7 +1,7 @@
 //! The parser of the words of `pd`, which is made of the tables.
 
 use crate::commands::all_commands;
-use crate::rows::{CommandRow, Kind, Values, WordRow};
+use crate::rows::{CommandRow, Values, WordRow};
 use crate::words::all_words;
 use clap::builder::ValueParser;
 use clap::{Arg, ArgAction, Command};
@@ -27,7 +27,9 @@ The status says what became of a call:
    9  the log is bad
   11  the program has too many blocks
   12  the directives are bad
-  13  the report is bad";
+  13  the report is bad
+  14  there is no such procedure
+  15  the program has no line table, or a bad one";
 
 /// Returns what a value is checked by.
 fn check_of<'a>(values: Values) -> ValueParser<'a> {
@@ -60,7 +62,7 @@ fn arg_of<'a>(alloc: Global, command: &CommandRow, row: &WordRow) -> Arg<'a> {
         .action(action_of(row.values))
         .value_parser(check_of(row.values))
         .required(command.needs(row));
-    if let Kind::Place = row.kind {
+    if row.kind.is_place() {
         return arg;
     }
     arg = arg.long(row.name).value_name(row.value);

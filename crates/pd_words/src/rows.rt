@@ -5,10 +5,14 @@
 pub enum Kind {
     /// It is positional.
     Place,
+    /// It is positional, and for `paradyn` an option of this name.
+    NamedPlace(&'static str),
     /// It is an option that `paradyn` has too.
     ServedOption,
     /// It is an option of `pd` alone.
     OwnOption,
+    /// It is an option of `pd` alone, and for `paradyn` this value of the option of this name.
+    Choice(&'static str, &'static str),
 }
 
 /// What a positional word, or the value of an option, can be.
@@ -73,6 +77,13 @@ pub struct CommandRow {
     pub example: &'static str,
 }
 
+impl Kind {
+    /// Returns whether a word is positional.
+    pub fn is_place(self) -> bool {
+        matches!(self, Kind::Place | Kind::NamedPlace(_))
+    }
+}
+
 impl CommandRow {
     /// Returns whether it has a word.
     pub fn has(&self, word: &WordRow) -> bool {
@@ -81,6 +92,6 @@ impl CommandRow {
 
     /// Returns whether a word of it may not be left out.
     pub fn needs(&self, word: &WordRow) -> bool {
-        matches!(word.kind, Kind::Place) && !self.optional.contains(&word.name)
+        word.kind.is_place() && !self.optional.contains(&word.name)
     }
 }

@@ -3,7 +3,7 @@
 ghost use Rattle.std.specs.Prelude.{◌≡◌, map, string_bytes, IfOk};
 
 use crate::lines::add;
-use crate::rows::{CommandRow, Kind};
+use crate::rows::{CommandRow, Kind, WordRow};
 use crate::words::all_words;
 use clap::ArgMatches;
 use clap::parser::ValueSource;
@@ -43,18 +43,36 @@ fn add_option<'t>(
     Ok(())
 }
 
-/// Adds each option of `paradyn` that was given.
+/// Adds the option of `paradyn` that a word which was given stands for, if it stands for one.
+fn add_given(
+    alloc: Global,
+    words: &mut Vec<String>,
+    given: &ArgMatches<'_>,
+    row: &WordRow,
+) -> Result<(), NoMemory> {
+    match row.kind {
+        Kind::ServedOption => {
+            let value = given.get_str(row.name).unwrap_or("");
+            add_option(alloc, words, row.name, value)
+        }
+        Kind::NamedPlace(name) => {
+            let value = given.get_str(row.name).unwrap_or("");
+            add_option(alloc, words, name, value)
+        }
+        Kind::Choice(name, value) => add_option(alloc, words, name, value),
+        Kind::Place | Kind::OwnOption => Ok(()),
+    }
+}
+
+/// Adds each option of `paradyn` that words which were given stand for.
 fn add_options(
     alloc: Global,
     words: &mut Vec<String>,
     given: &ArgMatches<'_>,
 ) -> Result<(), NoMemory> {
     for row in all_words() {
-        if matches!(row.kind, Kind::ServedOption)
-            && given.value_source(row.name) == Some(ValueSource::CommandLine)
-        {
-            let value = given.get_str(row.name).unwrap_or("");
-            add_option(alloc, words, row.name, value)?;
+        if given.value_source(row.name) == Some(ValueSource::CommandLine) {
+            add_given(alloc, words, given, row)?;
         }
     }
     Ok(())

@@ -2,14 +2,15 @@
 
 ghost use Rattle.std.specs.Prelude.{map, string_bytes, IfOk, IsSome};
 ghost use Rattle.command_words.specs.Requests.{request_of};
-ghost use Rattle.pd_words.specs.Wishes.{IsServed, CanBeServed};
+ghost use Rattle.pd_words.specs.Wishes.{IsServed, CanBeServed, for_screen};
 
 use crate::commands::command_named;
 use crate::completions::{BASH, ZSH, completion};
 use crate::man::man_page;
 use crate::parser::parser;
 use crate::rows::{CommandRow, Server};
-use crate::served::{copied, served_words};
+use crate::screens::for_screen;
+use crate::served::served_words;
 use clap::error::ErrorKind;
 use clap::{ArgMatches, Error};
 use command_words::{WordFault, read_request};
@@ -54,9 +55,10 @@ pub enum Wish {
     Wrong(String),
 }
 
-/// What is said where a number isn't written as `paradyn` writes them.
-const BAD_NUMBER: &str = "\
-error: a number is 1 to 10 decimal digits, with no sign before them\n\nFor more information, try '--help'.\n";
+/// What is said where a number or an address isn't written as `paradyn` writes them, or two shapes are asked for.
+const BAD_VALUE: &str = "\
+error: a number is 1 to 10 decimal digits with no sign before them; an address is 0x and hexadecimal digits, with a comma before the \
+next; one of --table, --words and --show is enough\n\nFor more information, try '--help'.\n";
 
 /// What is said where there is no command.
 const NO_COMMAND: &str = "error: there is no command\n\nFor more information, try '--help'.\n";
@@ -95,6 +97,7 @@ fn serving_wish(
     alloc: Global,
     command: &CommandRow,
     given: &ArgMatches<'_>,
+    is_screen: bool,
 ) -> Result<Wish, NoMemory>
     ensures { IfOk result CanBeServed }
 {
@@ -102,11 +105,12 @@ fn serving_wish(
     match read_request(alloc, words.as_slice()) {
         Ok(_) => {}
         Err(WordFault::NoMemory) => return Err(AllocError),
-        Err(WordFault::Usage) => return wrong(alloc, BAD_NUMBER),
+        Err(WordFault::Usage) => return wrong(alloc, BAD_VALUE),
     }
+    let output = text_copied(alloc, given.get_str("output"))?;
     Ok(Wish::Serve(Serving {
-        words,
-        output: text_copied(alloc, given.get_str("output"))?,
+        words: for_screen(alloc, &words, is_screen && output.is_none())?,
+        output,
         force: given.get_flag("force"),
         quiet: given.get_flag("quiet"),
     }))
@@ -119,7 +123,7 @@ fn check_wish(alloc: Global, given: &ArgMatches<'_>) -> Result<Wish, NoMemory>
     let digits = given.get_str("harts").unwrap_or("1");
     let harts = match number(digits.as_bytes(), MAX_HARTS as u64) {
         Some(harts) if harts >= 1 => harts as u32,
-        _ => return wrong(alloc, BAD_NUMBER),
+        _ => return wrong(alloc, BAD_VALUE),
     };
     Ok(Wish::Check(CheckWords {
         program: String::from_str(alloc, given.get_str("PROGRAM").unwrap_or(""))?,
@@ -141,11 +145,12 @@ fn command_wish(
     alloc: Global,
     command: &CommandRow,
     given: &ArgMatches<'_>,
+    is_screen: bool,
 ) -> Result<Wish, NoMemory>
     ensures { IfOk result CanBeServed }
 {
     match command.server {
-        Server::Paradyn => serving_wish(alloc, command, given),
+        Server::Paradyn => serving_wish(alloc, command, given, is_screen),
         Server::Check => check_wish(alloc, given),
         Server::Man => Ok(Wish::Print(man_page(alloc)?)),
         Server::Completions => Ok(Wish::Print(script(alloc, given)?)),
@@ -153,44 +158,46 @@ fn command_wish(
 }
 
 /// Returns the wish of what clap found in words.
-fn found_wish(alloc: Global, found: &ArgMatches<'_>) -> Result<Wish, NoMemory>
+fn found_wish(alloc: Global, found: &ArgMatches<'_>, is_screen: bool) -> Result<Wish, NoMemory>
     ensures { IfOk result CanBeServed }
 {
     if let Some((word, given)) = found.subcommand()
         && let Some(command) = command_named(word)
     {
-        return command_wish(alloc, &command, given);
+        return command_wish(alloc, &command, given, is_screen);
     }
     wrong(alloc, NO_COMMAND)
 }
 
 /// Returns the wish of words that `paradyn` doesn't take.
-fn other_wish(alloc: Global, words: &[String]) -> Result<Wish, NoMemory>
+fn other_wish(alloc: Global, words: &[String], is_screen: bool) -> Result<Wish, NoMemory>
     ensures { IfOk result CanBeServed }
 {
     match parser(alloc)?.try_get_matches_from(words) {
-        Ok(found) => found_wish(alloc, &found),
+        Ok(found) => found_wish(alloc, &found, is_screen),
         Err(error) => told(alloc, &error),
     }
 }
 
-/// Reads what a person's words, without the program's name, ask `pd` for. Words that `paradyn` takes are served as they are.
+/// Reads what a person's words, without the program's name, ask `pd` for. Words that `paradyn` takes are served as they are; but on a
+/// screen a profile is shown as a table, where no other shape is asked for.
 ///
 /// # Errors
 ///
 /// `NoMemory` where memory runs out.
-pub fn read_wish(alloc: Global, words: &[String]) -> Result<Wish, NoMemory>
-    ensures same { IfOk result (λ wish. IsSome (request_of (map string_bytes words.now)) → IsServed wish (map string_bytes words.now)) }
+pub fn read_wish(alloc: Global, words: &[String], is_screen: bool) -> Result<Wish, NoMemory>
+    ensures same { IfOk result (λ wish. IsSome (request_of (map string_bytes words.now))
+        → IsServed wish (for_screen is_screen (map string_bytes words.now))) }
     ensures served { IfOk result CanBeServed }
 {
     match read_request(alloc, words) {
         Ok(_) => Ok(Wish::Serve(Serving {
-            words: copied(alloc, words)?,
+            words: for_screen(alloc, words, is_screen)?,
             output: None,
             force: false,
             quiet: false,
         })),
         Err(WordFault::NoMemory) => Err(AllocError),
-        Err(WordFault::Usage) => other_wish(alloc, words),
+        Err(WordFault::Usage) => other_wish(alloc, words, is_screen),
     }
 }

@@ -12,6 +12,10 @@ const SHELLS: [&str; 2] = ["bash", "zsh"];
 
 const STARTS: [&str; 2] = ["cold", "warm"];
 
+const SHAPES: [&str; 3] = ["lines", "words", "table"];
+
+const UNITS: [&str; 2] = ["words", "lines"];
+
 /// What most positional words have in common.
 const PLACE: WordRow = WordRow {
     kind: Kind::Place,
@@ -37,7 +41,7 @@ const FLAG: WordRow = WordRow {
     ..PLACE
 };
 
-static WORDS: [WordRow; 25] = [
+static WORDS: [WordRow; 34] = [
     WordRow {
         name: "PROGRAM",
         what: "The program, an ELF file or an assembly text",
@@ -96,6 +100,13 @@ static WORDS: [WordRow; 25] = [
         name: "SHELL",
         values: Values::Words(&SHELLS),
         what: "Which shell, bash or zsh",
+        ..PLACE
+    },
+    WordRow {
+        kind: Kind::NamedPlace("procedure"),
+        name: "PROCEDURE",
+        values: Values::Text,
+        what: "A procedure, as main or program/main; without one all are shown",
         ..PLACE
     },
     WordRow {
@@ -172,6 +183,59 @@ static WORDS: [WordRow; 25] = [
         ..OPTION
     },
     WordRow {
+        name: "also",
+        value: "ADDR,..",
+        values: Values::Text,
+        what: "Addresses at which blocks begin too, as those that a jump table has",
+        ..OPTION
+    },
+    WordRow {
+        kind: Kind::Choice("show", "table"),
+        name: "table",
+        what: "Shows a table of the procedures, as a terminal is shown",
+        ..FLAG
+    },
+    WordRow {
+        kind: Kind::Choice("show", "words"),
+        name: "words",
+        what: "Shows a line for each procedure, call, loop and word",
+        ..FLAG
+    },
+    WordRow {
+        name: "show",
+        value: "SHAPE",
+        values: Values::Words(&SHAPES),
+        what: "What is shown: lines, words or table",
+        ..OPTION
+    },
+    WordRow {
+        name: "top",
+        values: Values::Number(1, 1_000_000),
+        default: Some("20"),
+        what: "How many procedures a table has at most, 1 to 1000000",
+        ..OPTION
+    },
+    WordRow {
+        kind: Kind::Choice("by", "lines"),
+        name: "source",
+        what: "Shows lines of source in place of words, by the program's line table",
+        ..FLAG
+    },
+    WordRow {
+        name: "by",
+        value: "UNIT",
+        values: Values::Words(&UNITS),
+        what: "What is shown with its numbers: words or lines of source",
+        ..OPTION
+    },
+    WordRow {
+        name: "callgrind",
+        value: "FILE",
+        values: Values::File,
+        what: "Writes FILE for callgrind_annotate and KCachegrind",
+        ..OPTION
+    },
+    WordRow {
         name: "log",
         value: "FILE",
         values: Values::File,
@@ -189,7 +253,7 @@ static WORDS: [WordRow; 25] = [
     },
     WordRow {
         name: "force",
-        what: "Lets --log and --output write over any file",
+        what: "Lets --log, --callgrind and --output write over any file",
         ..FLAG
     },
     WordRow {
