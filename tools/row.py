@@ -3,7 +3,7 @@
 
     tools/row.py WORD..
 
-It stands in the program's place where commands that are shown are held against the rows: the gate compares what the program prints
+The words are those of `pd`, whose rows have the words of `paradyn` that stand for them. It stands in the program's place where commands that are shown are held against the rows: the gate compares what the program prints
 with these. Of a row that says alone whether workers met, or whether outputs are the same, nothing is printed. Where no row has these
 words, that is told, and the status is 1."""
 
@@ -16,6 +16,16 @@ STDOUT = TOP / "crates/test_top/stdout"
 ENDED = rb"\nExitCode\(unix_exit_status\((\d+)\)\)"
 
 
+def served(words):
+    """The words of `paradyn` for these of `pd`."""
+    out = []
+    for word in words:
+        if words[0] == "annotate" and len(out) == 2 and not word.startswith("-"):
+            out.append("--procedure")
+        out.append({"--table": "--show table", "--words": "--show words", "--source": "--by lines"}.get(word, word))
+    return " ".join(out)
+
+
 def row_of(words, rows):
     """The status of the row with these words, and what it prints; or None."""
     served = re.search(rb"^words " + re.escape(words) + ENDED + rb" out (\d+) log \d+\n", rows, re.M)
@@ -26,7 +36,7 @@ def row_of(words, rows):
 
 
 def main():
-    words = " ".join(sys.argv[1:])
+    words = served(sys.argv[1:])
     row = row_of(words.encode(), STDOUT.read_bytes())
     if row is None:
         print(f"no row has the words {words}", file=sys.stderr)

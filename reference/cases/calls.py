@@ -12,13 +12,15 @@ VALUES = {
     "harts": [1, 1, 1, 2, 2, 3, 3, 4, 7, 16, 32], "quantum": [1, 1, 2, 3, 7, 20, 50, 10000],
     "budget": [1, 3, 20, 65, 200, 400, 700], "bins": [2, 3, 5, 64, 1024], "width": [1, 2, 5, 10, 17, 50, 100, 1000],
     "seed": [0, 1, 7, 99, 1000, 4294967295], "instruments": [1, 2, 4, 8, 64, 1024], "start": ["cold", "warm"],
-    "workers": [1, 2, 3, 4, 5, 16], "views": [1, 2, 3, 8],
+    "workers": [1, 2, 3, 4, 5, 16], "views": [1, 2, 3, 8], "show": ["lines", "words", "words", "table"],
+    "top": [1, 2, 3, 20, 1000000],
 }
 SEARCH = b"include hypotheses;\nsearch { window %d; cost 1000; observed 1000000; }\n"
 # how often an option is given; those of which the default would be slow always are
-GIVEN = {"instruments": 0.2, "start": 0.25, "seed": 0.6, "workers": 0.7, "views": 0.8, "bins": 0.8, "quantum": 0.9}
+GIVEN = {"instruments": 0.2, "start": 0.25, "seed": 0.6, "workers": 0.7, "views": 0.8, "bins": 0.8, "quantum": 0.9, "show": 0.8, "top": 0.5}
 STRAY_WORDS = ["--", "-", "--harts", "--log", "--log=", "--start=cold", "-h", "more", "--harts=2"]
-BAD_VALUES = ["0", "-", "-1", "x", "", "00000000001", "4294967296", "10001", "100000001", "33", "hot", "1e3"]
+ALSO = ["0x10004", "0x10008,0x10010", "0x1000C", "0x10000,0x10000", "0x1", "0xffffffffffffffff", "0x0000000000000010014"]
+BAD_VALUES = ["0x", "0x10000,", "0x10000000000000000", "10004", "0", "-", "-1", "x", "", "00000000001", "4294967296", "10001", "100000001", "33", "hot", "1e3"]
 
 
 class Case:
@@ -168,6 +170,27 @@ class Case:
 
     def blocks(self):
         self.call([self.program_name()], ("harts", "seed", "quantum", "budget"))
+
+    def also(self):
+        return [["--also", self.draw.choice(ALSO)]] if self.draw.random() < 0.3 else []
+
+    def profile(self):
+        more = [["--callgrind", "g"]] if self.draw.random() < 0.4 else []
+        self.call([self.program_name()], ("harts", "seed", "quantum", "budget", "show", "top"), more + self.also())
+
+    def procedure(self):
+        """The name of one of the program's procedures; sometimes of none."""
+        draw, content = self.draw, self.files.get("p", b"")
+        result = commands.execute(["points", "p"], {"p": content}.get)
+        paths = [line.split()[1].decode() for line in result.out.split(b"\n") if line.startswith(b"0x")]
+        if not paths or draw.random() < 0.1:
+            return draw.choice(["nothing", "program/", "", "/"])
+        return draw.choice([draw.choice(paths), draw.choice(paths).split("/")[-1]])
+
+    def annotate(self):
+        name = self.program_name()
+        more = [["--procedure", self.procedure()]] if self.draw.random() < 0.5 else []
+        self.call([name], ("harts", "seed", "quantum", "budget"), more + self.also())
 
     def points(self):
         draw = self.draw

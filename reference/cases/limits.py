@@ -42,6 +42,8 @@ def limits():
     yield run, {"p": procedures(4096), "c": SHIPPED + SHOWS}
     yield "blocks p --budget 50", {"p": blocks(4094)}
     yield "blocks p --budget 50", {"p": blocks(4095)}
+    yield "profile p --budget 50 --show words", {"p": blocks(4094)}
+    yield "annotate p --budget 50", {"p": blocks(4095)}
     yield run, {"p": NOPS, "c": b" " * 1048576}
     yield run, {"p": NOPS, "c": b" " * 1048577}
     yield "direct p c d", {"p": NOPS, "c": b"", "d": b" " * 1048576}

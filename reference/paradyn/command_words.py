@@ -15,11 +15,15 @@ COMMANDS = {
     "visi": (2, RUN + ["views"]),
     "advise": (1, []),
     "direct": (3, RUN),
+    "profile": (1, ["harts", "seed", "quantum", "budget", "also", "show", "top", "callgrind"]),
+    "annotate": (1, ["harts", "seed", "quantum", "budget", "also", "procedure", "by"]),
 }
+# options whose value is a name, and is taken as it is
+NAMES = ("log", "callgrind", "procedure")
 # least, most and default
 LIMITS = {"harts": (1, 32, 1), "workers": (1, 16, 2), "seed": (0, 4294967295, 0), "quantum": (1, 10000, 50),
           "budget": (1, 100000000, 1000000), "bins": (2, 1024, 64), "width": (1, 1000000, 1000),
-          "instruments": (1, 1024, 64), "views": (1, 8, 2)}
+          "instruments": (1, 1024, 64), "views": (1, 8, 2), "top": (1, 1000000, 20)}
 
 
 def number(text, low, high):
@@ -28,6 +32,17 @@ def number(text, low, high):
         return None
     n = int(text)
     return n if low <= n <= high else None
+
+
+def addresses(text):
+    """The addresses of a list, or None."""
+    out = []
+    for part in text.split(","):
+        digits = part[2:]
+        if part[:2] != "0x" or not digits or any(c not in "0123456789abcdefABCDEF" for c in digits):
+            return None
+        out.append(int(digits, 16))
+    return out if all(a < 2 ** 64 for a in out) else None
 
 
 def split(words, known):
@@ -54,10 +69,18 @@ def split(words, known):
 
 
 def value_of(name, given):
-    """The value of an option, or None where it isn't one. (The name of a log is taken as it is.)"""
+    """The value of an option, or None where it isn't one. (Names are taken as they are.)"""
     if name == "start":
         start = given.get(name, "warm")
         return start if start in ("cold", "warm") else None
+    if name == "show":
+        shape = given.get(name, "lines")
+        return shape if shape in ("lines", "words", "table") else None
+    if name == "by":
+        unit = given.get(name, "words")
+        return unit if unit in ("words", "lines") else None
+    if name == "also":
+        return addresses(given[name]) if name in given else []
     low, high, default = LIMITS[name]
     return number(given[name], low, high) if name in given else default
 
@@ -75,8 +98,8 @@ def parse(words):
     positional, given = parts
     out = {"command": words[0], "positional": positional}
     for name in known:
-        out[name] = given.get(name) if name == "log" else value_of(name, given)
-        if name != "log" and out[name] is None:
+        out[name] = given.get(name) if name in NAMES else value_of(name, given)
+        if name not in NAMES and out[name] is None:
             return None
     if words[0] == "stress":
         out["n"] = number(positional[0], 1, 200)
@@ -87,6 +110,6 @@ def parse(words):
 
 
 def log_name(words):
-    """The name of the log, where the words give one."""
+    """The name of the second text, where the words give one: a log, or what callgrind's tools read."""
     p = parse(words)
-    return None if p is None else p.get("log")
+    return None if p is None else p.get("callgrind" if words[0] == "profile" else "log")

@@ -1,6 +1,6 @@
 """What each command prints, and the status with which it ends."""
 from . import advice, assembly, basic_blocks, command_words, configuration, directives, elf_reading, elf_writing
-from . import plans, points, quanta_log, report, resources, shipped, stress, tokens
+from . import plans, points, profile, quanta_log, report, resources, shipped, stress, tokens
 from .checking import CheckFault, check
 from .session import BadPick, Session
 from .turn_order import by_workers, seeded
@@ -224,6 +224,24 @@ class Call:
         except basic_blocks.TooManyBlocks as f:
             raise Refusal(11, b"paradyn: too many blocks %d\n" % f.n) from None
         return Result(0, text)
+
+    def profiled(self, program, w):
+        try:
+            return profile.Profile(program, w)
+        except basic_blocks.TooManyBlocks as f:
+            raise Refusal(11, b"paradyn: too many blocks %d\n" % f.n) from None
+
+    def profile(self, w):
+        r = self.profiled(Program(load_program(self.read(w["positional"][0]))), w)
+        out = profile.table(r, w["top"]) if w["show"] == "table" else profile.lines(r, w["show"] == "words")
+        return Result(0, out, b"" if w["callgrind"] is None else profile.callgrind(r))
+
+    def annotate(self, w):
+        program = Program(load_program(self.read(w["positional"][0])))
+        name = None if w["procedure"] is None else w["procedure"].encode()
+        if name is not None and not any(profile.is_named(p, name) for p in program.procs):
+            raise Refusal(14, b"paradyn: no procedure " + name + b"\n")
+        return Result(0, profile.annotated(self.profiled(program, w), name))
 
     def advise(self, w):
         try:

@@ -18,6 +18,8 @@ REQUESTS = {
     "plan": "plan [{0}] [{1}] [{2}] [{3}] harts {harts}",
     "stress": "stress procs {n} seed {seed_word}",
     "blocks": "blocks [{0}] harts {harts} budget {budget} seed {seed} quantum {quantum}",
+    "profile": "profile [{0}] harts {harts} budget {budget} seed {seed} quantum {quantum} also {also} show {show} top {top}",
+    "annotate": "annotate [{0}] harts {harts} budget {budget} seed {seed} quantum {quantum} also {also} by {by}",
     "visi": "visi [{0}] [{1}] " + SETTINGS + " seed {seed} quantum {quantum} views {views}",
     "direct": "direct [{0}] [{1}] [{2}] " + SETTINGS + " seed {seed} quantum {quantum}",
     "asm": "asm [{0}]", "points": "points [{0}]", "relog": "relog [{0}]", "advise": "advise [{0}]",
@@ -31,6 +33,8 @@ def command(row):
     if w is None:
         return ["usage"]
     text = REQUESTS[w["command"]].format(*w["positional"], **{k: v for k, v in w.items() if k != "positional"})
+    if w.get("procedure") is not None:
+        text += " procedure [%s]" % w["procedure"]
     log = command_words.log_name(words)
     return [text if log is None else "%s log [%s]" % (text, log)]
 

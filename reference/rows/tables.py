@@ -22,15 +22,16 @@ def table_rows(folder):
 
 
 def standing_of_pd(folder):
-    """What stands for each row of `pd`, which is made by hand."""
-    _, *parts = re.split(r"^(\$ pd .*)\n", (folder / "stdout").read_text(), flags=re.M)
-    return {row.removeprefix("$ pd "): [row, *text.splitlines()] for row, text in zip(parts[::2], parts[1::2])}
+    """What stands for each row of `pd`, also on a screen, which is made by hand."""
+    _, *parts = re.split(r"^(\$ (?:pd|screen) .*)\n", (folder / "stdout").read_text(), flags=re.M)
+    return {row.removeprefix("$ "): [row, *text.splitlines()] for row, text in zip(parts[::2], parts[1::2])}
 
 
 def test_language(folder):
     source, of_pd = (folder / "src/searches/rows.rt").read_text(), standing_of_pd(folder)
     tables = {"language": language.answer, "command": records.command, "record": records.record,
-              "search": lambda row: records.search(row, source), "pd": lambda row: of_pd.get(row, [])}
+              "search": lambda row: records.search(row, source), "pd": lambda row: of_pd.get("pd " + row, []),
+              "screen": lambda row: of_pd.get("screen " + row, [])}
     for line, table, row in table_rows(folder):
         yield line, text(tables[table](row) if table in tables else ["no table"])
 
