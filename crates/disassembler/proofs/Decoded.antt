@@ -1,12 +1,12 @@
 -- The registers and numbers of a word's instruction, whose word it is.
-use Rattle.std.proofs.Common.{◌≡◌, ℕ, ◌+◌, ◌*◌, ◌/◌, ◌%◌, ◌^◌, ◌<◌, ◌==◌, ◌&&◌, cond, Bool, true, false, Option, Some, None, List, [], ◌∷◌, refl, ap, sym, ◌∙◌, subst, arith}
+use Rattle.std.proofs.Common.{◌≡◌, ◌-◌, ℕ, ◌/◌, ◌%◌, ◌^◌, ◌<◌, ◌≤◌, ◌==◌, ◌&&◌, cond, Bool, true, false, Option, Some, None, List, [], ◌∷◌, refl, ap, sym, ◌∙◌, arith}
 use Rattle.std.proofs.lemmas.Bool.{and_parts, eqb-true}
 use Rattle.std.specs.Prelude.{IfSome}
 use Rattle.std.specs.List.{AllByRecursion}
 use Rattle.std.specs.Option.{option_map}
 use Rattle.rv_word.specs.Codes.{with_code, with_codes, branch_op_of, branch_code, load_op_of, load_code, store_op_of, store_code, imm_op_of, imm_code, reg_op_of, reg_codes, reg_op_32_of, reg_32_codes, width_of, width_code, amo_op_of, amo_code}
-use Rattle.rv_word.specs.Fields.{rd_of, rs1_of, rs2_of, funct3_of, funct7_of, i_imm_of, s_imm_of, b_imm_of, j_imm_of, u_imm_of, extended}
-use Rattle.rv_word.specs.Table.{row, opcodes, decode_of, lui_of, auipc_of, jal_of, jalr_of, branch_of, load_of, store_of, op_imm_of, op_imm_32_of, op_of, op_32_of, fence_of, system_of, lr_of, sc_of, amo_of, atomic_by, atomic_of, read_by, shift_of, shift_32_of, left_shifts, right_shifts, right_shift_of, order_of}
+use Rattle.rv_word.specs.Fields.{rd_of, rs1_of, rs2_of, funct3_of, funct7_of, i_imm_of}
+use Rattle.rv_word.specs.Table.{row, opcodes, decode_of, lui_of, auipc_of, jal_of, jalr_of, branch_of, load_of, store_of, op_imm_of, op_imm_32_of, op_of, op_32_of, fence_of, system_of, lr_of, sc_of, amo_of, atomic_by, atomic_of, read_by, shift_of, shift_32_of, left_shifts, right_shifts, right_shift_of}
 use Rattle.rv_word.specs.Words.{word_of, shift_code, shift_top}
 use Rattle.rv_word.specs.declared.instr.BranchOp.{BranchOp}
 use Rattle.rv_word.specs.declared.instr.BranchOp.TheVariants as branch
@@ -27,7 +27,7 @@ use Rattle.rv_word.specs.declared.instr.AtomicWidth.TheVariants as width
 use Rattle.rv_word.specs.declared.instr.ShiftOp.{ShiftOp}
 use Rattle.rv_word.specs.declared.instr.ShiftOp.TheVariants as shift
 use Rattle.rv_word.specs.declared.instr.Instr.{Instr}
-use Rattle.rv_word.specs.declared.instr.Instr.TheVariants.{Lui, Auipc, Jal, Jalr, Branch, Load, Store, OpImm, ShiftImm, Addiw, ShiftImm32, Op, Op32, Fence, Ecall, Ebreak, Lr, Sc, Amo}
+use Rattle.rv_word.specs.declared.instr.Instr.TheVariants.{Jal, Jalr, Branch, Load, Store, OpImm, ShiftImm, Addiw, ShiftImm32, Ecall, Ebreak}
 use Rattle.disassembler.specs.declared.operand.Operand.{Operand}
 use Rattle.disassembler.specs.declared.operand.Operand.TheVariants.{Register, Number, Pointer, Memory, Target}
 use Rattle.disassembler.specs.Operands.{operands_of}
@@ -40,15 +40,26 @@ IsGood (Pointer r) = r < 32
 IsGood (Memory n r) = (n < 2 ^ 64) × (r < 32)
 IsGood (Target at) = at < 2 ^ 64
 
--- the distance of a jump or branch is a number of 64 bits
-abbrev pub IsNear : Instr → Type 0
-IsNear (Jal rd offset) = offset < 2 ^ 64
-IsNear (Branch op rs1 rs2 offset) = offset < 2 ^ 64
-IsNear i = Unit {0}
+-- a number of 12 bits with its sign, as 64 bits
+abbrev pub IsShort : ℕ → Type 0
+IsShort n = 2048 ≤ n → 2 ^ 64 - 2048 ≤ n
+
+-- the numbers of an instruction fit their places; the distance of a jump or branch is one of 64 bits
+abbrev pub IsNarrow : Instr → Type 0
+IsNarrow (Jal rd offset) = offset < 2 ^ 64
+IsNarrow (Branch op rs1 rs2 offset) = offset < 2 ^ 64
+IsNarrow (Jalr rd rs1 offset) = IsShort offset
+IsNarrow (Load op rd rs1 offset) = IsShort offset
+IsNarrow (Store op rs1 rs2 offset) = IsShort offset
+IsNarrow (OpImm op rd rs1 imm) = IsShort imm
+IsNarrow (Addiw rd rs1 imm) = IsShort imm
+IsNarrow (ShiftImm op rd rs1 by) = by < 64
+IsNarrow (ShiftImm32 op rd rs1 by) = by < 32
+IsNarrow i = Unit {0}
 
 pub record IsInstrOf (w : ℕ) (i : Instr) : Type 0 where
   pub good : (at : ℕ) → AllByRecursion IsGood (operands_of at i)
-  pub near : IsNear i
+  pub narrow : IsNarrow i
   pub word : word_of i ≡ w
 
 abbrev Fits : ℕ → Option Instr → Type 0
@@ -139,59 +150,59 @@ widths = width.Word ∷ width.Doubleword ∷ []
 -- ---- opcodes
 
 lui_fits : (w : ℕ) → w < 2 ^ 32 → w % 128 ≡ 0x37 → Fits w (lui_of w)
-lui_fits w l e = record { good = λ at. (omega arith, (omega arith, tt)); near = tt; word = omega arith }
+lui_fits w l e = record { good = λ at. (omega arith, (omega arith, tt)); narrow = tt; word = omega arith }
 
 auipc_fits : (w : ℕ) → w < 2 ^ 32 → w % 128 ≡ 0x17 → Fits w (auipc_of w)
-auipc_fits w l e = record { good = λ at. (omega arith, (omega arith, tt)); near = tt; word = omega arith }
+auipc_fits w l e = record { good = λ at. (omega arith, (omega arith, tt)); narrow = tt; word = omega arith }
 
 jal_fits : (w : ℕ) → w < 2 ^ 32 → w % 128 ≡ 0x6f → Fits w (jal_of w)
-jal_fits w l e = record { good = λ at. (omega arith, (omega arith, tt)); near = omega arith; word = omega arith }
+jal_fits w l e = record { good = λ at. (omega arith, (omega arith, tt)); narrow = omega arith; word = omega arith }
 
 jalr_fits : (w : ℕ) → w < 2 ^ 32 → w % 128 ≡ 0x67 → Fits w (jalr_of w)
 jalr_fits w l e = when w (funct3_of w == 0) (Some (Jalr (rd_of w) (rs1_of w) (i_imm_of w))) (λ t.
     let zero_code : w / 4096 % 8 ≡ 0 = eqb-true (funct3_of w) 0 t in
-    record { good = λ at. (omega arith, ((omega arith, omega arith), tt)); near = tt; word = omega arith })
+    record { good = λ at. (omega arith, ((omega arith, omega arith), tt)); narrow = λ h. omega arith; word = omega arith })
 
 branch_fits : (w : ℕ) → w < 2 ^ 32 → w % 128 ≡ 0x63 → Fits w (branch_of w)
 branch_fits w l e = mapped w _ (branch_op_of (funct3_of w)) (λ op is.
     let code : branch_code op ≡ w / 4096 % 8 = code_found branch_code branches (funct3_of w) op is in
-    record { good = λ at. (omega arith, (omega arith, (omega arith, tt))); near = omega arith; word = omega arith })
+    record { good = λ at. (omega arith, (omega arith, (omega arith, tt))); narrow = omega arith; word = omega arith })
 
 load_fits : (w : ℕ) → w < 2 ^ 32 → w % 128 ≡ 0x03 → Fits w (load_of w)
 load_fits w l e = mapped w _ (load_op_of (funct3_of w)) (λ op is.
     let code : load_code op ≡ w / 4096 % 8 = code_found load_code loads (funct3_of w) op is in
-    record { good = λ at. (omega arith, ((omega arith, omega arith), tt)); near = tt; word = omega arith })
+    record { good = λ at. (omega arith, ((omega arith, omega arith), tt)); narrow = λ h. omega arith; word = omega arith })
 
 store_fits : (w : ℕ) → w < 2 ^ 32 → w % 128 ≡ 0x23 → Fits w (store_of w)
 store_fits w l e = mapped w _ (store_op_of (funct3_of w)) (λ op is.
     let code : store_code op ≡ w / 4096 % 8 = code_found store_code stores (funct3_of w) op is in
-    record { good = λ at. (omega arith, ((omega arith, omega arith), tt)); near = tt; word = omega arith })
+    record { good = λ at. (omega arith, ((omega arith, omega arith), tt)); narrow = λ h. omega arith; word = omega arith })
 
 op_fits : (w : ℕ) → w < 2 ^ 32 → w % 128 ≡ 0x33 → Fits w (op_of w)
 op_fits w l e = mapped w _ (reg_op_of (funct7_of w) (funct3_of w)) (λ op is.
     let codes = codes_found reg_codes registers (funct7_of w) (funct3_of w) op is in
     let high : (reg_codes op).0 ≡ w / 33554432 = codes.0 in
     let low : (reg_codes op).1 ≡ w / 4096 % 8 = codes.1 in
-    record { good = λ at. (omega arith, (omega arith, (omega arith, tt))); near = tt; word = omega arith })
+    record { good = λ at. (omega arith, (omega arith, (omega arith, tt))); narrow = tt; word = omega arith })
 
 op_32_fits : (w : ℕ) → w < 2 ^ 32 → w % 128 ≡ 0x3b → Fits w (op_32_of w)
 op_32_fits w l e = mapped w _ (reg_op_32_of (funct7_of w) (funct3_of w)) (λ op is.
     let codes = codes_found reg_32_codes registers_32 (funct7_of w) (funct3_of w) op is in
     let high : (reg_32_codes op).0 ≡ w / 33554432 = codes.0 in
     let low : (reg_32_codes op).1 ≡ w / 4096 % 8 = codes.1 in
-    record { good = λ at. (omega arith, (omega arith, (omega arith, tt))); near = tt; word = omega arith })
+    record { good = λ at. (omega arith, (omega arith, (omega arith, tt))); narrow = tt; word = omega arith })
 
 fence_fits : (w : ℕ) → w < 2 ^ 32 → w % 128 ≡ 0x0f → Fits w (fence_of w)
 fence_fits w l e = when w (funct3_of w == 0) _ (λ t.
     let zero_code : w / 4096 % 8 ≡ 0 = eqb-true (funct3_of w) 0 t in
-    record { good = λ at. tt; near = tt; word = omega arith })
+    record { good = λ at. tt; narrow = tt; word = omega arith })
 
 system_fits : (w : ℕ) → Fits w (system_of w)
 system_fits w = by (w == 0x73) refl (w == 0x100073) refl
   where
     by : (b : Bool) → (w == 0x73) ≡ b → (c : Bool) → (w == 0x100073) ≡ c → Fits w (cond b (Some Ecall) (cond c (Some Ebreak) None))
-    by true is c then = record { good = λ at. tt; near = tt; word = sym (eqb-true w 0x73 is) }
-    by false is true then = record { good = λ at. tt; near = tt; word = sym (eqb-true w 0x100073 then) }
+    by true is c then = record { good = λ at. tt; narrow = tt; word = sym (eqb-true w 0x73 is) }
+    by false is true then = record { good = λ at. tt; narrow = tt; word = sym (eqb-true w 0x100073 then) }
     by false is false then = tt
 
 -- ---- shifts and numbers
@@ -203,7 +214,7 @@ top_of op = shift_top op / 2
 immediate_fits : (w : ℕ) → w < 2 ^ 32 → w % 128 ≡ 0x13 → Fits w (option_map (λ op. OpImm op (rd_of w) (rs1_of w) (i_imm_of w)) (imm_op_of (funct3_of w)))
 immediate_fits w l e = mapped w _ (imm_op_of (funct3_of w)) (λ op is.
     let code : imm_code op ≡ w / 4096 % 8 = code_found imm_code immediates (funct3_of w) op is in
-    record { good = λ at. (omega arith, (omega arith, (omega arith, tt))); near = tt; word = omega arith })
+    record { good = λ at. (omega arith, (omega arith, (omega arith, tt))); narrow = λ h. omega arith; word = omega arith })
 
 shift_fits : (w : ℕ) (code : ℕ) (o : Option ShiftOp) → w < 2 ^ 32 → w % 128 ≡ 0x13 → w / 4096 % 8 ≡ code → ((op : ShiftOp) → o ≡ Some op → (shift_code op ≡ code) × (top_of op ≡ w / 2 ^ 26)) → Fits w (shift_of w o)
 shift_fits w code o l e at_code each = mapped w _ o (λ op is.
@@ -211,7 +222,7 @@ shift_fits w code o l e at_code each = mapped w _ o (λ op is.
     let low : shift_code op ≡ w / 4096 % 8 = codes.0 ∙ sym at_code in
     let high : shift_top op / 2 ≡ w / 2 ^ 26 = codes.1 in
     let even : shift_top op % 2 ≡ 0 = top_even op in
-    record { good = λ at. (omega arith, (omega arith, (omega arith, tt))); near = tt; word = omega arith })
+    record { good = λ at. (omega arith, (omega arith, (omega arith, tt))); narrow = omega arith; word = omega arith })
   where
     top_even : (op : ShiftOp) → shift_top op % 2 ≡ 0
     top_even shift.Sll = refl
@@ -223,7 +234,7 @@ shift_32_fits w code o l e at_code each = mapped w _ o (λ op is.
     let codes = each op is in
     let low : shift_code op ≡ w / 4096 % 8 = codes.0 ∙ sym at_code in
     let high : shift_top op ≡ w / 33554432 = codes.1 in
-    record { good = λ at. (omega arith, (omega arith, (omega arith, tt))); near = tt; word = omega arith })
+    record { good = λ at. (omega arith, (omega arith, (omega arith, tt))); narrow = omega arith; word = omega arith })
 
 left_code : (n : ℕ) (op : ShiftOp) → row n left_shifts ≡ Some op → shift_code op ≡ 1
 left_code n op e = row_all (λ (o : ShiftOp). shift_code o) 1 left_shifts n op (refl, tt) e
@@ -249,7 +260,7 @@ op_imm_32_fits w l e = by (funct3_of w == 0) refl (funct3_of w == 1) refl (funct
     by : (a : Bool) → (funct3_of w == 0) ≡ a → (b : Bool) → (funct3_of w == 1) ≡ b → (c : Bool) → (funct3_of w == 5) ≡ c → Fits w (cond a (Some (Addiw (rd_of w) (rs1_of w) (i_imm_of w))) (cond b (shift_32_of w (row (funct7_of w) left_shifts)) (cond c (shift_32_of w (right_shift_of 32 (funct7_of w))) None)))
     by true is b i c j =
         let zero_code : w / 4096 % 8 ≡ 0 = eqb-true (funct3_of w) 0 is in
-        record { good = λ at. (omega arith, (omega arith, (omega arith, tt))); near = tt; word = omega arith }
+        record { good = λ at. (omega arith, (omega arith, (omega arith, tt))); narrow = λ h. omega arith; word = omega arith }
     by false is true i c j =
         shift_32_fits w 1 (row (funct7_of w) left_shifts) l e (eqb-true (funct3_of w) 1 i)
         (λ op found. (left_code (funct7_of w) op found, row_found (λ (o : ShiftOp). shift_top o) left_shifts (funct7_of w) op (refl, tt) found))
@@ -268,13 +279,13 @@ atomic_fits_by w width l e size = by (w / 2 ^ 27 == 2) refl (w / 2 ^ 27 == 3) re
         let top : w / 2 ^ 27 ≡ 2 = eqb-true (w / 2 ^ 27) 2 is in
         when w (rs2_of w == 0) _ (λ t.
         let none : w / 1048576 % 32 ≡ 0 = eqb-true (rs2_of w) 0 t in
-        record { good = λ at. (omega arith, (omega arith, tt)); near = tt; word = omega arith })
+        record { good = λ at. (omega arith, (omega arith, tt)); narrow = tt; word = omega arith })
     by false is true then =
         let top : w / 2 ^ 27 ≡ 3 = eqb-true (w / 2 ^ 27) 3 then in
-        record { good = λ at. (omega arith, (omega arith, (omega arith, tt))); near = tt; word = omega arith }
+        record { good = λ at. (omega arith, (omega arith, (omega arith, tt))); narrow = tt; word = omega arith }
     by false is false then = mapped w _ (amo_op_of (w / 2 ^ 27)) (λ op found.
         let code : amo_code op ≡ w / 2 ^ 27 = code_found amo_code amos (w / 2 ^ 27) op found in
-        record { good = λ at. (omega arith, (omega arith, (omega arith, tt))); near = tt; word = omega arith })
+        record { good = λ at. (omega arith, (omega arith, (omega arith, tt))); narrow = tt; word = omega arith })
 
 atomic_fits : (w : ℕ) → w < 2 ^ 32 → w % 128 ≡ 0x2f → Fits w (atomic_of w)
 atomic_fits w l e = by (width_of (funct3_of w)) refl
@@ -294,7 +305,7 @@ decoded w l =
         auipc_fits w l,
         (
           jal_fits w l,
-          (jalr_fits w l, (branch_fits w l, (load_fits w l, (store_fits w l, (op_imm_fits w l, (op_imm_32_fits w l, (op_fits w l, (op_32_fits w l, (fence_fits w l, ((λ e. system_fits w), (atomic_fits w l, tt)))))))))))
+          (jalr_fits w l, (branch_fits w l, (load_fits w l, (store_fits w l, (op_imm_fits w l, (op_imm_32_fits w l, (op_fits w l, (op_32_fits w l, (fence_fits w l, ((λ e. system_fits w), (atomic_fits w l, tt))))))))))),
         ),
       ),
     )

@@ -1,5 +1,5 @@
 -- The assembler's form for the name of an operation.
-use Rattle.std.proofs.Common.{◌≡◌, ℕ, ◌&&◌, nat_lt, Bool, true, Option, List, [], length, refl}
+use Rattle.std.proofs.Common.{◌≡◌, ℕ, ◌&&◌, nat_lt, true, Option, List, [], length, refl}
 use Rattle.std.specs.List.{list_all}
 use Rattle.rv_word.specs.declared.instr.AmoOp.{AmoOp}
 use Rattle.rv_word.specs.declared.instr.AmoOp.TheVariants as amo

@@ -4,3 +4,7 @@ pub mod Parts
 pub mod Shapes
 pub mod Forms
 pub mod Lines
+pub mod Spelled
+pub mod Coded
+pub mod TextLines
+pub mod Standing

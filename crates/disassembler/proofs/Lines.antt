@@ -1,15 +1,15 @@
 -- A line that is a name and operands is read as the statement that these make.
-use Rattle.std.proofs.Common.{◌≡◌, ℕ, zero, suc, ◌+◌, ◌-◌, ◌<◌, ◌≤◌, ◌==◌, ◌&&◌, ◌||◌, not, nat_lt, cond, Bool, true, false, Option, Some, None, List, [], ◌∷◌, ◌++◌, length, take, drop, append_assoc, refl, ap, sym, ◌∙◌, subst, arith}
+use Rattle.std.proofs.Common.{◌≡◌, ℕ, zero, suc, ◌+◌, ◌<◌, ◌==◌, ◌&&◌, not, cond, Bool, true, false, Some, None, List, [], ◌∷◌, ◌++◌, length, take, drop, append_assoc, refl, ap, ◌∙◌, arith}
 use Rattle.std.proofs.Math.Dec.{eqb-suc-zero}
 use Rattle.std.proofs.Math.Seq.{take-append-add}
 use Rattle.std.proofs.lemmas.Bool.{and_parts}
 use Rattle.std.proofs.lemmas.Bool.Decides.{nat_tests}
 use Rattle.std.specs.List.{prefix_len, list_all}
-use Rattle.rv_asm.specs.Bytes.{is_blank, is_name_byte, is_name, skip_blanks, word_of, after_name}
+use Rattle.rv_asm.specs.Bytes.{is_blank, is_name_byte, skip_blanks, after_name}
 use Rattle.rv_asm.specs.Parsing.{LineParts, code_len, body_of, is_parted, label_at, labels_in, labels_of, line_of, statement_at}
 use Rattle.rv_asm.specs.Statements.{Found, operation}
 use Rattle.rv_asm.specs.Tokens.{after_sign, ends}
-use Rattle.disassembler.proofs.Parts.{IsEnd, IsStart, IsWord, start_stays, word_first, word_behind, word_starts}
+use Rattle.disassembler.proofs.Parts.{IsEnd, IsWord, start_stays, word_first, word_behind, word_starts}
 use Rattle.disassembler.proofs.Shapes.{IsTail}
 
 -- ---- comments

@@ -1,5 +1,5 @@
 -- The parts of a line are read where they were written.
-use Rattle.std.proofs.Common.{◌≡◌, ℕ, zero, suc, ◌+◌, ◌-◌, ◌*◌, ◌/◌, ◌%◌, ◌^◌, ◌<◌, ◌≤◌, ◌==◌, ◌&&◌, ◌||◌, not, nat_lt, nat_le, cond, Bool, true, false, Option, Some, None, List, [], ◌∷◌, ◌++◌, length, take, drop, codes, bytes_eq, min, refl, ap, sym, ◌∙◌, subst, arith}
+use Rattle.std.proofs.Common.{◌≡◌, ℕ, zero, suc, ◌+◌, ◌-◌, ◌*◌, ◌^◌, ◌<◌, ◌≤◌, ◌==◌, ◌&&◌, nat_lt, cond, Bool, true, false, Option, Some, None, List, [], ◌∷◌, ◌++◌, length, take, drop, codes, bytes_eq, refl, ap, ◌∙◌, arith}
 use Rattle.std.proofs.Math.Seq.{take-append_seam, drop-append_seam}
 use Rattle.std.proofs.lemmas.Bool.{and_parts, eqb-true}
 use Rattle.std.proofs.lemmas.Bool.Decides.{nat_tests}
@@ -9,12 +9,12 @@ use Rattle.std.specs.Fmt.{decimal, digits}
 use Rattle.std.specs.List.{prefix_len, list_all}
 use Rattle.std.specs.Option.{option_map_or, option_and_then}
 use Rattle.std.specs.Str.Parse.{AllDigits, digits_value_after}
-use Rattle.rv_asm.specs.Bytes.{is_blank, is_name_byte, is_name, skip_blanks, word_of, after_name}
+use Rattle.rv_asm.specs.Bytes.{is_blank, is_name_byte, skip_blanks, word_of, after_name}
 use Rattle.rv_asm.specs.Numbers.{digit_of, below, digits_from, digits_of, size_of, wrapped}
 use Rattle.rv_asm.specs.Registers.{register_of}
-use Rattle.rv_asm.specs.Tokens.{ends, sign_at, register_at, name_at, number_at, signed_at, sized_at, pointer_at}
+use Rattle.rv_asm.specs.Tokens.{sign_at, register_at, name_at, number_at, signed_at, sized_at, pointer_at}
 use Rattle.rv_asm.specs.declared.number.Number.{Number}
-use Rattle.disassembler.specs.Operands.{usual_name, signed, label_of}
+use Rattle.disassembler.specs.Operands.{usual_name, signed_text, label_of}
 
 -- no byte of a name stands first
 abbrev pub IsEnd : List ℕ → Type 0
@@ -183,14 +183,14 @@ unsigned_read : (word rest : List ℕ) → IsWord word → 0 < length word → s
 unsigned_read [] rest w some = absurd (omega arith)
 unsigned_read (c ∷ cs) rest w some = rw (unsigned c (and_parts (is_name_byte c) (list_all is_name_byte cs) w).0) refl
 
-decimal_word : (m : ℕ) → m < 2 ^ 64 → IsWord (decimal m)
+pub decimal_word : (m : ℕ) → m < 2 ^ 64 → IsWord (decimal m)
 decimal_word m l = digits_word 10 (decimal m) (omega arith) (digits_is_IsNumeral 10 false (omega arith) (omega arith) m (omega arith)).0.1
 
 decimal_some : (m : ℕ) → m < 2 ^ 64 → 0 < length (decimal m)
 decimal_some m l = (digits_is_IsNumeral 10 false (omega arith) (omega arith) m (omega arith)).0.0
 
-signed_read : (n : ℕ) (rest : List ℕ) → n < 2 ^ 64 → IsEnd rest → signed_at (signed n ++ rest) ≡ Some (number_of n, rest)
-unfolding signed
+signed_read : (n : ℕ) (rest : List ℕ) → n < 2 ^ 64 → IsEnd rest → signed_at (signed_text n ++ rest) ≡ Some (number_of n, rest)
+unfolding signed_text
 signed_read n rest l e = by (nat_lt n (2 ^ 63)) refl
   where
     by : (b : Bool) → nat_lt n (2 ^ 63) ≡ b → signed_at (cond b (decimal n) (codes "-" ++ decimal (2 ^ 64 - n)) ++ rest) ≡ Some (cond b (record { negative = false; size = n }) (record { negative = true; size = 2 ^ 64 - n }), rest)
@@ -201,19 +201,19 @@ signed_read n rest l e = by (nat_lt n (2 ^ 63)) refl
         let small : 2 ^ 64 - n < 2 ^ 64 = omega arith in
         sized_read true (2 ^ 64 - n) (decimal (2 ^ 64 - n)) rest (size_decimal (2 ^ 64 - n) small) (decimal_word (2 ^ 64 - n) small) e
 
-pub number_read : (n : ℕ) (text rest : List ℕ) → n < 2 ^ 64 → IsEnd rest → skip_blanks text ≡ signed n ++ rest → number_at text ≡ Some (number_of n, rest)
+pub number_read : (n : ℕ) (text rest : List ℕ) → n < 2 ^ 64 → IsEnd rest → skip_blanks text ≡ signed_text n ++ rest → number_at text ≡ Some (number_of n, rest)
 unfolding number_at
 number_read n text rest l e is = ap signed_at is ∙ signed_read n rest l e
 
-pub signed_start : (n : ℕ) (rest : List ℕ) → n < 2 ^ 64 → IsStart (signed n ++ rest)
-unfolding signed
+pub signed_start : (n : ℕ) (rest : List ℕ) → n < 2 ^ 64 → IsStart (signed_text n ++ rest)
+unfolding signed_text
 signed_start n rest l = by (nat_lt n (2 ^ 63))
   where
     by : (b : Bool) → IsStart (cond b (decimal n) (codes "-" ++ decimal (2 ^ 64 - n)) ++ rest)
     by true = word_starts (decimal n) rest (decimal_word n l) (decimal_some n l)
     by false = refl
 
-hex_word : (m : ℕ) → m < 2 ^ 64 → IsWord (digits 16 false m)
+pub hex_word : (m : ℕ) → m < 2 ^ 64 → IsWord (digits 16 false m)
 hex_word m l = digits_word 16 (digits 16 false m) (omega arith) (digits_is_IsNumeral 16 false (omega arith) (omega arith) m (omega arith)).0.1
 
 pub value_read : (m : ℕ) (text rest : List ℕ) → m < 2 ^ 64 → IsEnd rest → skip_blanks text ≡ (codes "0x" ++ digits 16 false m) ++ rest → number_at text ≡ Some (record { negative = false; size = m }, rest)

@@ -1,23 +1,21 @@
 -- The operands of an instruction are read from their text.
-use Rattle.std.proofs.Common.{◌≡◌, ℕ, ◌-◌, ◌^◌, ◌<◌, cond, Bool, true, false, Option, Some, None, List, [], ◌∷◌, ◌++◌, length, codes, append_assoc, refl, ap, sym, ◌∙◌, arith}
+use Rattle.std.proofs.Common.{◌≡◌, ℕ, ◌^◌, ◌<◌, true, false, Some, List, [], ◌∷◌, ◌++◌, codes, append_assoc, refl, ap, ◌∙◌}
 use Rattle.std.specs.Fmt.{digits}
-use Rattle.rv_asm.specs.Bytes.{skip_blanks}
-use Rattle.rv_asm.specs.Operands.{alone, and_register_at, and_number_at, and_last_name, and_last_pointer, three_registers, register_number, registers_number, register_memory, register_pointer, registers_pointer, register_name, registers_name, one_number}
+use Rattle.rv_asm.specs.Operands.{and_register_at, and_number_at, and_last_name, and_last_pointer, three_registers, register_number, registers_number, register_memory, register_pointer, registers_pointer, register_name, registers_name, one_number}
 use Rattle.rv_asm.specs.Parsing.{is_parted}
-use Rattle.rv_asm.specs.Tokens.{ends, sign_at, register_at, number_at, name_at, pointer_at}
-use Rattle.rv_asm.specs.declared.number.Number.{Number}
+use Rattle.rv_asm.specs.Tokens.{ends, register_at, name_at, pointer_at}
 use Rattle.disassembler.specs.declared.operand.Operand.{Operand}
 use Rattle.disassembler.specs.declared.operand.Operand.TheVariants.{Register, Number as Constant, Pointer, Memory, Target}
-use Rattle.disassembler.specs.Operands.{usual_name, signed, label_of, operand_text, operands_text}
-use Rattle.disassembler.proofs.Parts.{IsEnd, IsStart, start_stays, space_skipped, register_read, name_start, number_of, number_read, signed_start, value_read, label_read, label_start, comma_read, pointer_read}
+use Rattle.disassembler.specs.Operands.{usual_name, signed_text, label_of, operand_text, operands_text}
+use Rattle.disassembler.proofs.Parts.{IsEnd, start_stays, space_skipped, register_read, name_start, number_of, number_read, signed_start, value_read, label_read, label_start, comma_read, pointer_read}
 
 -- ---- the text with what stands behind it
 
 abbrev pub operand_then : Operand → List ℕ → List ℕ
 operand_then (Register r) tail = usual_name r ++ tail
-operand_then (Constant n) tail = signed n ++ tail
+operand_then (Constant n) tail = signed_text n ++ tail
 operand_then (Pointer r) tail = 40 ∷ (usual_name r ++ 41 ∷ tail)
-operand_then (Memory n r) tail = signed n ++ (40 ∷ (usual_name r ++ 41 ∷ tail))
+operand_then (Memory n r) tail = signed_text n ++ (40 ∷ (usual_name r ++ 41 ∷ tail))
 operand_then (Target at) tail = label_of at ++ tail
 
 abbrev pub operands_then : List ℕ → List Operand → List ℕ → List ℕ
@@ -29,8 +27,8 @@ operand_is (Register r) tail = refl
 operand_is (Constant n) tail = refl
 operand_is (Pointer r) tail = ap (λ t. 40 ∷ t) (append_assoc (usual_name r) (codes ")") tail)
 operand_is (Memory n r) tail =
-    append_assoc (signed n) (codes "(" ++ (usual_name r ++ codes ")")) tail
-    ∙ ap (λ t. signed n ++ (40 ∷ t)) (append_assoc (usual_name r) (codes ")") tail)
+    append_assoc (signed_text n) (codes "(" ++ (usual_name r ++ codes ")")) tail
+    ∙ ap (λ t. signed_text n ++ (40 ∷ t)) (append_assoc (usual_name r) (codes ")") tail)
 operand_is (Target at) tail = refl
 
 pub operands_are : (before : List ℕ) (operands : List Operand) (tail : List ℕ) → operands_text before operands ++ tail ≡ operands_then before operands tail
@@ -54,10 +52,10 @@ next_register : (r : ℕ) (rest : List ℕ) → r < 32 → IsEnd rest → and_re
 unfolding and_register_at
 next_register r rest l e = rw (comma_read (32 ∷ (usual_name r ++ rest))) (first_register r rest l e)
 
-next_number : (n : ℕ) (rest : List ℕ) → n < 2 ^ 64 → IsEnd rest → and_number_at (44 ∷ 32 ∷ (signed n ++ rest)) ≡ Some (number_of n, rest)
+next_number : (n : ℕ) (rest : List ℕ) → n < 2 ^ 64 → IsEnd rest → and_number_at (44 ∷ 32 ∷ (signed_text n ++ rest)) ≡ Some (number_of n, rest)
 unfolding and_number_at
 next_number n rest l e =
-    rw (comma_read (32 ∷ (signed n ++ rest))) (number_read n (32 ∷ (signed n ++ rest)) rest l e (space_skipped (signed n ++ rest) (signed_start n rest l)))
+    rw (comma_read (32 ∷ (signed_text n ++ rest))) (number_read n (32 ∷ (signed_text n ++ rest)) rest l e (space_skipped (signed_text n ++ rest) (signed_start n rest l)))
 
 last_name : (at : ℕ) (tail : List ℕ) → at < 2 ^ 64 → IsTail tail → and_last_name (44 ∷ 32 ∷ (label_of at ++ tail)) ≡ Some (label_of at)
 unfolding and_last_name
@@ -84,12 +82,12 @@ three_read a b c tail la lb lc t =
 pub number_pair_read : (a n : ℕ) (tail : List ℕ) → a < 32 → n < 2 ^ 64 → IsTail tail → register_number (operands_then (codes " ") (Register a ∷ Constant n ∷ []) tail) ≡ Some (a, number_of n)
 unfolding register_number
 number_pair_read a n tail la ln t =
-    rw (first_register a (44 ∷ 32 ∷ (signed n ++ tail)) la refl, next_number n tail ln t.apart, t.blank) refl
+    rw (first_register a (44 ∷ 32 ∷ (signed_text n ++ tail)) la refl, next_number n tail ln t.apart, t.blank) refl
 
 pub numbered_read : (a b n : ℕ) (tail : List ℕ) → a < 32 → b < 32 → n < 2 ^ 64 → IsTail tail → registers_number (operands_then (codes " ") (Register a ∷ Register b ∷ Constant n ∷ []) tail) ≡ Some (a, b, number_of n)
 unfolding registers_number
 numbered_read a b n tail la lb ln t =
-    let third = signed n ++ tail in
+    let third = signed_text n ++ tail in
     let second = usual_name b ++ 44 ∷ 32 ∷ third in
     rw (first_register a (44 ∷ 32 ∷ second) la refl, next_register b (44 ∷ 32 ∷ third) lb refl, next_number n tail ln t.apart, t.blank) refl
 
@@ -97,7 +95,7 @@ pub memory_read : (a n b : ℕ) (tail : List ℕ) → a < 32 → n < 2 ^ 64 → 
 unfolding register_memory
 memory_read a n b tail la ln lb t =
     let text = 40 ∷ (usual_name b ++ 41 ∷ tail) in
-    rw (first_register a (44 ∷ 32 ∷ (signed n ++ text)) la refl, next_number n text ln refl, pointer_read b text tail lb (start_stays text refl), t.blank) refl
+    rw (first_register a (44 ∷ 32 ∷ (signed_text n ++ text)) la refl, next_number n text ln refl, pointer_read b text tail lb (start_stays text refl), t.blank) refl
 
 pub pointer_pair_read : (a b : ℕ) (tail : List ℕ) → a < 32 → b < 32 → IsTail tail → register_pointer (operands_then (codes " ") (Register a ∷ Pointer b ∷ []) tail) ≡ Some (a, b)
 unfolding register_pointer

@@ -72,3 +72,13 @@ has_word i word = option_map_or (λ made. word_of made == word) i false
 abbrev pub name_with : {A : Type 0} → (A → Option Instr) → ℕ → List (List ℕ × A) → List ℕ
 name_with made word [] = []
 name_with made word (row ∷ rows) = if has_word (made row.1) word then row.0 else name_with made word rows
+
+-- an access to memory, or a jump by a register
+abbrev pub IsAccess : Instr → Type 0
+IsAccess (Jalr rd rs1 offset) = Unit {0}
+IsAccess (Load op rd rs1 offset) = Unit {0}
+IsAccess (Store op rs1 rs2 offset) = Unit {0}
+IsAccess (Lr width rd rs1 order) = Unit {0}
+IsAccess (Sc width rd rs1 rs2 order) = Unit {0}
+IsAccess (Amo op width rd rs1 rs2 order) = Unit {0}
+IsAccess i = ⊥

@@ -1,13 +1,12 @@
 -- The assembler reads the text of a word as this word again.
-use Rattle.std.specs.Prelude.{ℕ, ◌≡◌, ◌<◌, ◌^◌, IsSomeAnd, IfSome, Some, Ok, List, [], ◌++◌}
-use Rattle.rv_word.specs.Names.{jump_of}
-use Rattle.rv_word.specs.Table.{decode_of}
-use Rattle.rv_asm.specs.FirstPass.{Placed}
+use Rattle.std.specs.Prelude.{ℕ, ◌≡◌, ◌<◌, ◌^◌, Bool, false, IsSomeAnd, IfSome, IsOk, Some, Ok, List, [], ◌++◌}
+use Rattle.rv_word.specs.Names.{has_scratch}
+use Rattle.rv_asm.specs.FirstPass.{Placed, blank_draft, judged_line}
 use Rattle.rv_asm.specs.Parsing.{LineParts, body_of, line_of}
 use Rattle.rv_asm.specs.Registers.{named}
 use Rattle.rv_asm.specs.SecondPass.{code_by, word_bytes}
 use Rattle.disassembler.specs.Operands.{label_of}
-use Rattle.disassembler.specs.Texts.{instruction_text}
+use Rattle.disassembler.specs.Texts.{instruction_text, named_target}
 
 -- the line's statement, with this number and at this address
 abbrev pub placed : ℕ → ℕ → LineParts → Placed
@@ -18,9 +17,9 @@ abbrev pub IsLineOf : List (List ℕ × ℕ) → ℕ → ℕ → ℕ → LinePar
 IsLineOf labels number at word line =
     (line.labels ≡ []) × (code_by labels (placed number at line) line.statement ≡ Ok (word_bytes word))
 
--- where the word leads to an address, the labels have its name for it
+-- a name that stands in the word's text for an address stands for it among the labels
 abbrev pub HasTarget : List (List ℕ × ℕ) → ℕ → ℕ → Type 0
-HasTarget labels at word = IfSome (jump_of (decode_of word) at) (λ address. named (label_of address) labels ≡ Some address)
+HasTarget labels at word = IfSome (named_target at word) (λ address. named (label_of address) labels ≡ Some address)
 
 -- nothing but blanks stands before the comment, if there is one
 abbrev pub HasNoCode : List ℕ → Type 0
@@ -32,3 +31,10 @@ LinesAssemble =
     (labels : List (List ℕ × ℕ)) (number at word : ℕ) (behind : List ℕ)
     → at < 2 ^ 64 → word < 2 ^ 32 → HasTarget labels at word → HasNoCode behind
     → IsSomeAnd (line_of (instruction_text at word ++ behind)) (IsLineOf labels number at word)
+
+-- If the word doesn't name x31, this line may stand in the text, where every program begins, be a procedure open or not.
+abbrev pub LinesStandInTexts : Type 0
+LinesStandInTexts =
+    (number at word : ℕ) (behind : List ℕ) (inside : Bool)
+    → word < 2 ^ 32 → has_scratch word ≡ false → HasNoCode behind
+    → IsOk (judged_line number blank_draft.section inside (instruction_text at word ++ behind))

@@ -17,8 +17,8 @@ unfoldable pub usual_name : ℕ → List ℕ
 usual_name r = name_by (λ n. n) r usual_names
 
 -- a number of 64 bits with its sign
-unfoldable pub signed : ℕ → List ℕ
-signed n = if nat_lt n (2 ^ 63) then decimal n else codes "-" ++ decimal (2 ^ 64 - n)
+unfoldable pub signed_text : ℕ → List ℕ
+signed_text n = if nat_lt n (2 ^ 63) then decimal n else codes "-" ++ decimal (2 ^ 64 - n)
 
 -- the name of an address: `L` and its hexadecimal digits
 unfoldable pub label_of : ℕ → List ℕ
@@ -26,9 +26,9 @@ label_of at = codes "L" ++ digits 16 false at
 
 abbrev pub operand_text : Operand → List ℕ
 operand_text (Register r) = usual_name r
-operand_text (Number n) = signed n
+operand_text (Number n) = signed_text n
 operand_text (Pointer r) = codes "(" ++ (usual_name r ++ codes ")")
-operand_text (Memory n r) = signed n ++ (codes "(" ++ (usual_name r ++ codes ")"))
+operand_text (Memory n r) = signed_text n ++ (codes "(" ++ (usual_name r ++ codes ")"))
 operand_text (Target at) = label_of at
 
 -- operands, with this before the first, and a comma and a space before each other

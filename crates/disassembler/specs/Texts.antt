@@ -2,6 +2,7 @@
 use Rattle.std.specs.Prelude.{ℕ, ◌+◌, ◌*◌, ◌==◌, ◌&&◌, Bool, true, if◌then◌else◌, Option, Some, None, List, ◌++◌, codes}
 use Rattle.pn_types.specs.Texts.{address}
 use Rattle.rv_word.specs.Codes.{branch_code, load_code, store_code, imm_code, reg_codes, reg_32_codes, amo_code, width_code}
+use Rattle.rv_word.specs.Names.{target_of}
 use Rattle.rv_word.specs.Table.{decode_of}
 use Rattle.rv_word.specs.Words.{shift_code, shift_top}
 use Rattle.rv_word.specs.declared.instr.AtomicWidth.{AtomicWidth}
@@ -39,14 +40,14 @@ mnemonic (Amo op width rd rs1 rs2 order) = name_by amo_code op amo_ops ++ width_
 
 -- Whether the assembler has a form for the instruction at the address: a jump or branch has to reach its target, `fence` is
 -- that of all accesses, and no form has the bits of the order.
-abbrev pub has_form : ℕ → Instr → Bool
-has_form at (Jal rd offset) = reaches (Jal rd offset) at (target at offset)
-has_form at (Branch op rs1 rs2 offset) = reaches (Branch op rs1 rs2 offset) at (target at offset)
-has_form at (Fence rd rs1 high) = (rd == 0) && ((rs1 == 0) && (high == 0x0ff))
-has_form at (Lr width rd rs1 order) = order == 0
-has_form at (Sc width rd rs1 rs2 order) = order == 0
-has_form at (Amo op width rd rs1 rs2 order) = order == 0
-has_form at i = true
+abbrev pub is_spelled : ℕ → Instr → Bool
+is_spelled at (Jal rd offset) = reaches (Jal rd offset) at (target at offset)
+is_spelled at (Branch op rs1 rs2 offset) = reaches (Branch op rs1 rs2 offset) at (target at offset)
+is_spelled at (Fence rd rs1 high) = (rd == 0) && ((rs1 == 0) && (high == 0x0ff))
+is_spelled at (Lr width rd rs1 order) = order == 0
+is_spelled at (Sc width rd rs1 rs2 order) = order == 0
+is_spelled at (Amo op width rd rs1 rs2 order) = order == 0
+is_spelled at i = true
 
 -- the instruction at an address, and a jump or branch with the name of its target
 abbrev pub form_text : ℕ → Instr → List ℕ
@@ -58,8 +59,16 @@ value_text word = codes ".word " ++ address word
 
 abbrev pub text_by : ℕ → ℕ → Option Instr → List ℕ
 text_by at word None = value_text word
-text_by at word (Some i) = if has_form at i then form_text at i else value_text word
+text_by at word (Some i) = if is_spelled at i then form_text at i else value_text word
 
 -- the word at an address: its instruction, if the assembler has a form for it, and else its value
 unfoldable pub instruction_text : ℕ → ℕ → List ℕ
 instruction_text at word = text_by at word (decode_of word)
+
+abbrev pub target_by : ℕ → Option Instr → Option ℕ
+target_by at None = None
+target_by at (Some i) = if is_spelled at i then target_of i at else None
+
+-- the address whose name stands in the text of the word at an address, if one does
+abbrev pub named_target : ℕ → ℕ → Option ℕ
+named_target at word = target_by at (decode_of word)

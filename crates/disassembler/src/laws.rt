@@ -1,9 +1,13 @@
 //! Laws of the texts.
 
-ghost use Rattle.disassembler.specs.Laws.{LinesAssemble};
+ghost use Rattle.disassembler.specs.Laws.{LinesAssemble, LinesStandInTexts};
 
 /// The assembler reads the text of a word as this word again, where its labels have the name of each jump's target.
 pub fn lines_assemble()
     ensures { LinesAssemble }
-{
-}
+{}
+
+/// The assembler takes the text of a word that doesn't name x31 among the lines of a program's text.
+pub fn lines_stand_in_texts()
+    ensures { LinesStandInTexts }
+{}

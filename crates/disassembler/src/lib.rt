@@ -9,6 +9,6 @@ mod mnemonics;
 mod operand;
 mod text;
 
-pub use laws::lines_assemble;
+pub use laws::{lines_assemble, lines_stand_in_texts};
 pub use operand::add_label;
-pub use text::add_instruction;
+pub use text::{add_instruction, named_target};

@@ -1,7 +1,7 @@
 //! Operands.
 
 ghost use Rattle.std.specs.Prelude.{◌≡◌, ◌++◌, OnOk, codes, map};
-ghost use Rattle.disassembler.specs.Operands.{label_of, name_by, operand_text, operands_text, signed, usual_name};
+ghost use Rattle.disassembler.specs.Operands.{label_of, name_by, operand_text, operands_text, signed_text, usual_name};
 
 use pn_types::NoMemory;
 use rv_asm::USUAL_NAMES;
@@ -50,9 +50,9 @@ fn add_register(out: &mut Vec<u8>, register: u32) -> Result<(), NoMemory>
 }
 
 /// Adds the number with its sign.
-#[tactic(auto, unfolding(crate::specs::Operands::signed))]
+#[tactic(auto, unfolding(crate::specs::Operands::signed_text))]
 fn add_signed(alloc: Global, out: &mut Vec<u8>, number: u64) -> Result<(), NoMemory>
-    ensures { OnOk result (out.new.items ≡ out.old.items ++ signed number) }
+    ensures { OnOk result (out.new.items ≡ out.old.items ++ signed_text number) }
 {
     if number < 1 << 63 {
         out.extend_from_slice(format!(in alloc; "{number}")?.as_bytes())
