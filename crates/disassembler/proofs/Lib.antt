@@ -8,3 +8,4 @@ pub mod Spelled
 pub mod Coded
 pub mod TextLines
 pub mod Standing
+mod Comments

@@ -6,7 +6,7 @@ use Rattle.rv_asm.specs.Parsing.{LineParts, body_of, line_of}
 use Rattle.rv_asm.specs.Registers.{named}
 use Rattle.rv_asm.specs.SecondPass.{code_by, word_bytes}
 use Rattle.disassembler.specs.Operands.{label_of}
-use Rattle.disassembler.specs.Texts.{instruction_text, named_target}
+use Rattle.disassembler.specs.Texts.{instruction_text, named_target, word_text}
 
 -- the line's statement, with this number and at this address
 abbrev pub placed : ℕ → ℕ → LineParts → Placed
@@ -31,6 +31,13 @@ LinesAssemble =
     (labels : List (List ℕ × ℕ)) (number at word : ℕ) (behind : List ℕ)
     → at < 2 ^ 64 → word < 2 ^ 32 → HasTarget labels at word → HasNoCode behind
     → IsSomeAnd (line_of (instruction_text at word ++ behind)) (IsLineOf labels number at word)
+
+-- So it is of the text with the comment on an order.
+abbrev pub WordsAssemble : Type 0
+WordsAssemble =
+    (labels : List (List ℕ × ℕ)) (number at word : ℕ) (behind : List ℕ)
+    → at < 2 ^ 64 → word < 2 ^ 32 → HasTarget labels at word → HasNoCode behind
+    → IsSomeAnd (line_of (word_text at word ++ behind)) (IsLineOf labels number at word)
 
 -- If the word doesn't name x31, this line may stand in the text, where every program begins, be a procedure open or not.
 abbrev pub LinesStandInTexts : Type 0

@@ -1,5 +1,5 @@
 -- The text of a word at an address, as the assembler reads it.
-use Rattle.std.specs.Prelude.{ℕ, ◌+◌, ◌*◌, ◌==◌, ◌&&◌, Bool, true, if◌then◌else◌, Option, Some, None, List, ◌++◌, codes}
+use Rattle.std.specs.Prelude.{ℕ, ◌+◌, ◌*◌, ◌==◌, ◌&&◌, Bool, true, if◌then◌else◌, Option, Some, None, List, [], ◌++◌, codes}
 use Rattle.pn_types.specs.Texts.{address}
 use Rattle.rv_word.specs.Codes.{branch_code, load_code, store_code, imm_code, reg_codes, reg_32_codes, amo_code, width_code}
 use Rattle.rv_word.specs.Names.{target_of}
@@ -72,3 +72,29 @@ target_by at (Some i) = if is_spelled at i then target_of i at else None
 -- the address whose name stands in the text of the word at an address, if one does
 abbrev pub named_target : ℕ → ℕ → Option ℕ
 named_target at word = target_by at (decode_of word)
+
+-- ---- the order of an atomic access
+
+-- the bits of the order, of which 2 is `aq` and 1 `rl`; other instructions have none
+abbrev pub order_of : Instr → ℕ
+order_of (Lr width rd rs1 order) = order
+order_of (Sc width rd rs1 rs2 order) = order
+order_of (Amo op width rd rs1 rs2 order) = order
+order_of i = 0
+
+abbrev pub order_name : ℕ → List ℕ
+order_name order = if order == 1 then codes ".rl" else if order == 2 then codes ".aq" else codes ".aqrl"
+
+-- an access with an order, which the assembler has no form for, as a comment
+abbrev pub order_comment : Instr → List ℕ
+order_comment i =
+    if order_of i == 0 then []
+    else codes "  # " ++ (mnemonic i ++ (order_name (order_of i) ++ operands_text (codes " ") (operands_of 0 i)))
+
+abbrev pub comment_by : Option Instr → List ℕ
+comment_by None = []
+comment_by (Some i) = order_comment i
+
+-- The text of the word at an address, and behind it what it is where it is an access with an order.
+unfoldable pub word_text : ℕ → ℕ → List ℕ
+word_text at word = instruction_text at word ++ comment_by (decode_of word)

@@ -35,7 +35,11 @@ fn is_spelled(at: u64, instr: &Instr) -> bool
 }
 
 /// Adds the operands of an access to memory, or of a jump by a register.
-fn add_access_operands(alloc: Global, out: &mut Vec<u8>, instr: &Instr) -> Result<(), NoMemory>
+pub(crate) fn add_access_operands(
+    alloc: Global,
+    out: &mut Vec<u8>,
+    instr: &Instr,
+) -> Result<(), NoMemory>
     requires { IsAccess instr.now }
     ensures { OnOk result (out.new.items ≡ out.old.items ++ operands_text (codes " ") (operands_of 0 instr.now)) }
 {
