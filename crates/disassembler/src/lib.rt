@@ -13,4 +13,4 @@ mod word_text;
 pub use laws::{lines_assemble, lines_stand_in_texts, words_assemble};
 pub use operand::add_label;
 pub use text::{add_instruction, named_target};
-pub use word_text::add_word;
+pub use word_text::add_word_text;

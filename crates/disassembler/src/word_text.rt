@@ -53,7 +53,7 @@ fn add_comment(alloc: Global, out: &mut Vec<u8>, instr: &Instr) -> Result<(), No
 ///
 /// `NoMemory` where memory runs out.
 #[tactic(auto, unfolding(crate::specs::Texts::word_text))]
-pub fn add_word(alloc: Global, out: &mut Vec<u8>, at: u64, word: u32) -> Result<(), NoMemory>
+pub fn add_word_text(alloc: Global, out: &mut Vec<u8>, at: u64, word: u32) -> Result<(), NoMemory>
     ensures { OnOk result (out.new.items ≡ out.old.items ++ word_text at word) }
 {
     add_instruction(alloc, out, at, word)?;

@@ -3,8 +3,9 @@
 
 use crate::starts::start_text;
 use command_words::{
-    BlocksRequest, DirectRequest, LiveRequest, PlanRequest, ReplayRequest, Request, RunRequest,
-    StressRequest, VisiRequest, WordFault, log_name, read_request,
+    AnnotateRequest, AnnotationUnit, BlocksRequest, DirectRequest, LiveRequest, PlanRequest,
+    ProfileRequest, ProfileShape, ProfileSource, ReplayRequest, Request, RunRequest, StressRequest,
+    VisiRequest, WordFault, addresses, log_name, read_request,
 };
 use pn_types::{NoMemory, Settings};
 use std::alloc::Global;
@@ -82,16 +83,48 @@ fn stress_text(alloc: Global, stress: StressRequest) -> Result<String, NoMemory>
     format!(in alloc; "stress procs {procs} seed {seed}")
 }
 
-/// What `blocks` is asked for.
-fn blocks_text(alloc: Global, blocks: &BlocksRequest<'_>) -> Result<String, NoMemory> {
+/// The run whose blocks a command of this name counts.
+fn blocks_text(alloc: Global, name: &str, blocks: &BlocksRequest<'_>) -> Result<String, NoMemory> {
     let program = blocks.program;
     let harts = blocks.harts;
     let budget = blocks.budget;
     let seed = blocks.order.seed;
     let quantum = blocks.order.quantum;
     format!(in alloc;
-        "blocks [{program}] harts {harts} budget {budget} seed {seed} quantum {quantum}"
+        "{name} [{program}] harts {harts} budget {budget} seed {seed} quantum {quantum}"
     )
+}
+
+/// What a profile is of, for a command of this name.
+fn source_text(alloc: Global, name: &str, source: &ProfileSource<'_>) -> Result<String, NoMemory> {
+    let blocks = blocks_text(alloc, name, &source.counted)?;
+    let also = addresses(alloc, source.also.unwrap_or(""))?;
+    format!(in alloc; "{blocks} also {also:?}")
+}
+
+/// What `profile` is asked for.
+fn profile_text(alloc: Global, profile: &ProfileRequest<'_>) -> Result<String, NoMemory> {
+    let source = source_text(alloc, "profile", &profile.source)?;
+    let top = profile.top;
+    let shape = match profile.shape {
+        ProfileShape::Lines => "lines",
+        ProfileShape::Words => "words",
+        ProfileShape::Table => "table",
+    };
+    format!(in alloc; "{source} show {shape} top {top}")
+}
+
+/// What `annotate` is asked for.
+fn annotate_text(alloc: Global, annotate: &AnnotateRequest<'_>) -> Result<String, NoMemory> {
+    let source = source_text(alloc, "annotate", &annotate.source)?;
+    let unit = match annotate.unit {
+        AnnotationUnit::Words => "words",
+        AnnotationUnit::Lines => "lines",
+    };
+    match annotate.procedure {
+        Some(name) => format!(in alloc; "{source} by {unit} procedure [{name}]"),
+        None => format!(in alloc; "{source} by {unit}"),
+    }
 }
 
 /// What `visi` is asked for.
@@ -129,7 +162,9 @@ fn request_text(alloc: Global, words: &[String]) -> Result<String, NoMemory> {
         Ok(Request::Points(program)) => format!(in alloc; "points [{program}]"),
         Ok(Request::Relog(log)) => format!(in alloc; "relog [{log}]"),
         Ok(Request::Stress(stress)) => stress_text(alloc, stress),
-        Ok(Request::Blocks(blocks)) => blocks_text(alloc, &blocks),
+        Ok(Request::Blocks(blocks)) => blocks_text(alloc, "blocks", &blocks),
+        Ok(Request::Profile(profile)) => profile_text(alloc, &profile),
+        Ok(Request::Annotate(annotate)) => annotate_text(alloc, &annotate),
         Ok(Request::Visi(visi)) => visi_text(alloc, &visi),
         Ok(Request::Advise(report)) => format!(in alloc; "advise [{report}]"),
         Ok(Request::Direct(direct)) => direct_text(alloc, &direct),

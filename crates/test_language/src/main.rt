@@ -2,7 +2,7 @@
 //!
 //! - `language`: calls on numbers, tokens, configurations, foci, checks and plans ([`language`]);
 //! - `command`: what words ask of `paradyn` ([`commands`]);
-//! - `pd`: what a person's words ask of `pd` ([`wishes`]);
+//! - `pd`: what a person's words ask of `pd` ([`wishes`]), and `screen`: what they ask for on a screen;
 //! - `record`: logs and samples ([`records`]);
 //! - `search`: searches that are taken through steps ([`searches`]).
 //!
@@ -25,6 +25,7 @@ enum Table {
     Language,
     Command,
     Wish,
+    ScreenWish,
     Record,
     Search,
 }
@@ -36,6 +37,7 @@ impl Table {
             "language" => Some(Table::Language),
             "command" => Some(Table::Command),
             "pd" => Some(Table::Wish),
+            "screen" => Some(Table::ScreenWish),
             "record" => Some(Table::Record),
             "search" => Some(Table::Search),
             _ => None,
@@ -52,7 +54,8 @@ fn answer(rt: &impl Print, alloc: Global, line: &str) -> io::Result<()> {
     match Table::of(name) {
         Some(Table::Language) => language::answer(rt, alloc, row),
         Some(Table::Command) => commands::answer(rt, alloc, row),
-        Some(Table::Wish) => wishes::answer(rt, alloc, row),
+        Some(Table::Wish) => wishes::answer(rt, alloc, row, false),
+        Some(Table::ScreenWish) => wishes::answer(rt, alloc, row, true),
         Some(Table::Record) => records::answer(rt, alloc, row),
         Some(Table::Search) => searches::answer(rt, alloc, row),
         None => println!(rt; "no table"),

@@ -39,8 +39,8 @@ fn told(alloc: Global, kind: &str, text: &str) -> Result<String, NoMemory> {
 }
 
 /// What words ask for.
-fn wish_text(alloc: Global, words: &[String]) -> Result<String, NoMemory> {
-    match read_wish(alloc, words)? {
+fn wish_text(alloc: Global, words: &[String], is_screen: bool) -> Result<String, NoMemory> {
+    match read_wish(alloc, words, is_screen)? {
         Wish::Print(text) => told(alloc, "print", &text),
         Wish::Wrong(text) => told(alloc, "wrong", &text),
         Wish::Serve(serving) => serving_text(alloc, &serving),
@@ -48,13 +48,14 @@ fn wish_text(alloc: Global, words: &[String]) -> Result<String, NoMemory> {
     }
 }
 
-/// Prints a row, and what it asks for.
+/// Prints a row, and what it asks for, on a screen or not.
 ///
 /// # Errors
 ///
 /// Where the output can't be written, or memory runs out.
-pub fn answer(rt: &impl Print, alloc: Global, row: &str) -> io::Result<()> {
+pub fn answer(rt: &impl Print, alloc: Global, row: &str, is_screen: bool) -> io::Result<()> {
     let words = words(alloc, row)?;
-    let text = wish_text(alloc, &words)?;
-    print!(rt; "$ pd {row}\n{text}")
+    let text = wish_text(alloc, &words, is_screen)?;
+    let name = if is_screen { "screen" } else { "pd" };
+    print!(rt; "$ {name} {row}\n{text}")
 }

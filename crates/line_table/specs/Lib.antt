@@ -1,0 +1,10 @@
+pub mod Reading
+pub mod Numbers
+pub mod Units
+pub mod Programs
+pub mod Sections
+pub mod Tables
+pub mod Strings
+pub mod Paths
+pub mod Meaning
+pub mod Checks
