@@ -4,6 +4,7 @@ import random
 from paradyn import commands, quanta_log
 from .configurations import SHIPPED_METRICS, Directives, changed, configuration_file
 from .files import AssemblyText, changed_elf, changed_log, changed_report, other_quanta
+from .lines import with_lines
 from .programs import program_file
 
 FOCI = ["/Code", "/Code/program", "/Machine/hart0", "/Machine/hart3", "/SyncObject", "/Code,/SyncObject/lock_a",
@@ -13,11 +14,12 @@ VALUES = {
     "budget": [1, 3, 20, 65, 200, 400, 700], "bins": [2, 3, 5, 64, 1024], "width": [1, 2, 5, 10, 17, 50, 100, 1000],
     "seed": [0, 1, 7, 99, 1000, 4294967295], "instruments": [1, 2, 4, 8, 64, 1024], "start": ["cold", "warm"],
     "workers": [1, 2, 3, 4, 5, 16], "views": [1, 2, 3, 8], "show": ["lines", "words", "words", "table"],
+    "by": ["words", "words", "lines"],
     "top": [1, 2, 3, 20, 1000000],
 }
 SEARCH = b"include hypotheses;\nsearch { window %d; cost 1000; observed 1000000; }\n"
 # how often an option is given; those of which the default would be slow always are
-GIVEN = {"instruments": 0.2, "start": 0.25, "seed": 0.6, "workers": 0.7, "views": 0.8, "bins": 0.8, "quantum": 0.9, "show": 0.8, "top": 0.5}
+GIVEN = {"instruments": 0.2, "start": 0.25, "seed": 0.6, "workers": 0.7, "views": 0.8, "bins": 0.8, "quantum": 0.9, "show": 0.8, "top": 0.5, "by": 0.5}
 STRAY_WORDS = ["--", "-", "--harts", "--log", "--log=", "--start=cold", "-h", "more", "--harts=2"]
 ALSO = ["0x10004", "0x10008,0x10010", "0x1000C", "0x10000,0x10000", "0x1", "0xffffffffffffffff", "0x0000000000000010014"]
 BAD_VALUES = ["0x", "0x10000,", "0x10000000000000000", "10004", "0", "-", "-1", "x", "", "00000000001", "4294967296", "10001", "100000001", "33", "hot", "1e3"]
@@ -190,7 +192,9 @@ class Case:
     def annotate(self):
         name = self.program_name()
         more = [["--procedure", self.procedure()]] if self.draw.random() < 0.5 else []
-        self.call([name], ("harts", "seed", "quantum", "budget"), more + self.also())
+        if self.draw.random() < 0.7 and "p" in self.files:
+            self.put("p", with_lines(self.draw, self.files["p"]))
+        self.call([name], ("harts", "seed", "quantum", "budget", "by"), more + self.also())
 
     def points(self):
         draw = self.draw

@@ -1,6 +1,6 @@
 """What each command prints, and the status with which it ends."""
 from . import advice, assembly, basic_blocks, command_words, configuration, directives, elf_reading, elf_writing
-from . import plans, points, profile, quanta_log, report, resources, shipped, stress, tokens
+from . import line_table, plans, points, profile, quanta_log, report, resources, shipped, stress, tokens
 from .checking import CheckFault, check
 from .session import BadPick, Session
 from .turn_order import by_workers, seeded
@@ -48,6 +48,17 @@ def load_program(data):
         return elf_reading.load(data) if data[:4] == b"\x7fELF" else assembly.assemble(bytes(data))
     except (elf_reading.ElfFault, assembly.AsmFault) as f:
         raise bad_program(f) from None
+
+
+def lines_of(data):
+    """The line table of a program file, or Refusal."""
+    try:
+        table = line_table.read(data) if data[:4] == b"\x7fELF" else None
+    except line_table.BadLines as f:
+        raise Refusal(15, b"paradyn: bad line table at %d\n" % f.place) from None
+    if table is None:
+        raise Refusal(15, b"paradyn: no line table\n")
+    return table
 
 
 def parse_configuration(data):
@@ -237,11 +248,13 @@ class Call:
         return Result(0, out, b"" if w["callgrind"] is None else profile.callgrind(r))
 
     def annotate(self, w):
-        program = Program(load_program(self.read(w["positional"][0])))
+        content = self.read(w["positional"][0])
+        program = Program(load_program(content))
         name = None if w["procedure"] is None else w["procedure"].encode()
         if name is not None and not any(profile.is_named(p, name) for p in program.procs):
             raise Refusal(14, b"paradyn: no procedure " + name + b"\n")
-        return Result(0, profile.annotated(self.profiled(program, w), name))
+        table = lines_of(content) if w["by"] == "lines" else None
+        return Result(0, profile.annotated(self.profiled(program, w), name, table))
 
     def advise(self, w):
         try:

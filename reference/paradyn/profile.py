@@ -185,8 +185,7 @@ def annotated_procedure(r, p, ticks):
         n = r.number(a)
         target = jump_target(r.words[(a - r.at) // 4], a)
         q = next((q for q in r.procs if q.start == target), None)
-        out += (b"\n" if a in heads else b"") + (b"%d" % n).rjust(12) + share(n, r.ticks).rjust(8)
-        out += (b" * " if n and n * 20 >= r.ticks else b"   ") + b"0x%x  " % a + r.instruction(a)
+        out += (b"\n" if a in heads else b"") + number_columns(r, n) + b"0x%x  " % a + r.instruction(a)
         out += (b"  # " + path(q) if q else b"") + b"\n"
     return out
 
@@ -195,6 +194,26 @@ def is_named(p, name):
     return name in (p.name, path(p))
 
 
-def annotated(r, name):
+def number_columns(r, n):
+    mark = b" * " if n and n * 20 >= r.ticks else b"   "
+    return (b"%d" % n).rjust(12) + share(n, r.ticks).rjust(8) + mark
+
+
+def sourced_procedure(r, p, ticks, table):
+    """A procedure by its lines of source, words without one last."""
+    sums = {}
+    for a in r.places(p):
+        source = table.source_at(a)
+        sums[source] = sums.get(source, 0) + r.number(a)
+    out = procedure_line(r, p, ticks) + b"\n"
+    for source in sorted(sums, key=lambda s: (s is None, s)):
+        out += number_columns(r, sums[source]) + (b"?" if source is None else table.source_text(source)) + b"\n"
+    return out
+
+
+def annotated(r, name, table):
+    """The procedures, or those of a name: their words, or their lines of source where there is a table of these."""
     rows = [(p, t) for p, t in r.rows() if name is None or is_named(p, name)]
+    if table is not None:
+        return b"\n".join(sourced_procedure(r, p, t, table) for p, t in rows)
     return b"\n".join(annotated_procedure(r, p, t) for p, t in rows)
