@@ -1,0 +1,12 @@
+pub mod Tests
+pub mod Ascending
+pub mod Paths
+pub mod Ranges
+pub mod Prepared
+pub mod Sorting
+pub mod Found
+pub mod Joins
+pub mod Adding
+pub mod Pairs
+pub mod Order
+pub mod Fitting

@@ -1,0 +1,7 @@
+use Rattle.std.proofs.Common.{◌≡◌, ◌++◌, drop, flat_map}
+use Rattle.profile_text.specs.Callgrind.{cost_line}
+use Rattle.profile_text.proofs.callgrind.add_costs.Given as goal
+
+-- what is written, and the lines that are left, make all the lines
+abbrev pub invariant-loop-word : goal.invariant-loop-word
+invariant-loop-word l = l.out.items ++ flat_map cost_line (drop l.word-index l.words) ≡ l.initial.out.items ++ flat_map cost_line l.words

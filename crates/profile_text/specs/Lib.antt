@@ -1,0 +1,16 @@
+pub mod Names
+pub mod NumberedWords
+pub mod Rows
+pub mod Totals
+pub mod Jumps
+pub mod Lines
+pub mod Callgrind
+pub mod Columns
+pub mod Table
+pub mod Annotated
+pub mod Laws
+pub mod Sums
+pub mod Finding
+pub mod ProfiledTexts
+pub mod ProcedureRows
+pub mod Annotating
