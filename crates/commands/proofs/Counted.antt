@@ -52,7 +52,7 @@ module _ (image : Image) (procs : List Proc) (budget : ℕ) (p : Pace) where
       let s = run image p.harts is.turns in
       of_parts (map (λ x. x.ticks) s.harts) (map (stop_of budget) s.harts) (map (passes_of (trace image p.harts is.turns)) (counted_blocks_of image procs)) r is.ticks is.stops is.counts
 
-  counts_once : (r s : Counts) → IsCounted image procs budget p r → IsCounted image procs budget p s → r ≡ s
+  pub counts_once : (r s : Counts) → IsCounted image procs budget p r → IsCounted image procs budget p s → r ≡ s
   counts_once r s is it = along r is ∙ ap counts_along (is.owned ∙ sym it.owned) ∙ sym (along s it)
 
 -- ---- what is due

@@ -9,6 +9,7 @@ mod Wished
 mod Numbered
 mod Given
 mod Counted
+mod Profiled
 pub mod OneDue
 pub mod Rising
 mod Procs

@@ -1,6 +1,6 @@
 -- What is due is unique where each file was seen as one thing.
 use Rattle.std.proofs.Common.{◌≡◌, ℕ, Bool, true, false, List, Option, Some, None, Result, Ok, Err, refl, sym, ap, ◌∙◌}
-use Rattle.command_words.specs.Requests.{Request, SessionRequest, LiveRequest, ReplayRequest, PlanRequest, DirectRequest, run, live, replay, plan, asm, points, relog, stress, blocks, visi, advise, direct, request_of}
+use Rattle.command_words.specs.Requests.{Request, SessionRequest, LiveRequest, ReplayRequest, PlanRequest, DirectRequest, run, live, replay, plan, asm, points, relog, stress, blocks, visi, advise, direct, profile, annotate, request_of}
 use Rattle.command_words.specs.declared.requests.TurnOrder.{TurnOrder}
 use Rattle.advice.specs.Reading.{verdicts_of}
 use Rattle.directives.specs.Acts.{applied}
@@ -42,6 +42,7 @@ use Rattle.whole_run.specs.Seeded.{OneSeeded}
 use Rattle.commands.specs.Advising.{advice_texts, IsAdviseDue, IsReportContent}
 use Rattle.commands.specs.Output.{output}
 use Rattle.commands.specs.Blocks.{AreCounted}
+use Rattle.commands.specs.Profiles.{AreProfileTexts, IsBytesAnnotation}
 use Rattle.commands.specs.Directing.{MeansDirectives, AreDirectives, IsConfAfter, IsDirectDue, IsDirection, IsDirectivesContent, IsDirectRun, conf_with, or_bad_directives}
 use Rattle.commands.specs.Found.{resources_of, IsCheck, IsFound}
 use Rattle.commands.specs.Given.{inputs_with}
@@ -62,6 +63,7 @@ use Rattle.commands.specs.declared.logs.Log.{Log}
 use Rattle.commands.specs.declared.logs.TheConstants.{LOG_LIMIT}
 use Rattle.commands.specs.declared.texts.Texts.{Texts}
 use Rattle.commands.proofs.Counted.{counted_once}
+use Rattle.commands.proofs.Profiled.{annotation_once, profile_once}
 
 -- the laws of what the top call's steps stand upon
 pub record Laws : Type 0 where
@@ -303,6 +305,10 @@ module _ (laws : Laws) where
     due_for_once (Some (visi r)) other = session_of_once sees once r.session r.order (views_of r.views)
     due_for_once (Some (advise name)) other = advise_due_once sees once name
     due_for_once (Some (direct r)) other = direct_due_once sees once r
+    due_for_once (Some (profile r)) other =
+        one_then (IsProgramOfFile sees r.source.counted.program) (AreProfileTexts r) (program_once sees once r.source.counted.program) (profile_once r)
+    due_for_once (Some (annotate r)) other =
+        one_then (IsProgramContent sees r.source.counted.program) (IsBytesAnnotation r) (content_once sees once MAX_PROGRAM_LEN (BadProgram TooLong) r.source.counted.program) (annotation_once r)
 
     due_for_alike : (asked : Option Request) (a b : Result Texts Fault) → IsDueFor asked sees a → IsDueFor asked sees b → AreLike a b
     due_for_alike None a b d e = of_same a b (due_for_once None refl a b d e)
@@ -318,6 +324,8 @@ module _ (laws : Laws) where
     due_for_alike (Some (visi r)) a b d e = of_same a b (due_for_once (Some (visi r)) refl a b d e)
     due_for_alike (Some (advise name)) a b d e = of_same a b (due_for_once (Some (advise name)) refl a b d e)
     due_for_alike (Some (direct r)) a b d e = of_same a b (due_for_once (Some (direct r)) refl a b d e)
+    due_for_alike (Some (profile r)) a b d e = of_same a b (due_for_once (Some (profile r)) refl a b d e)
+    due_for_alike (Some (annotate r)) a b d e = of_same a b (due_for_once (Some (annotate r)) refl a b d e)
 
     by_kind : (words : List (List ℕ)) (is : Bool) → is_live (request_of words) ≡ is → (a b : Result Texts Fault) → IsDue words sees a → IsDue words sees b → AreOne is a b
     by_kind words true e a b due other = due_for_alike (request_of words) a b due other

@@ -9,7 +9,7 @@ use Rattle.advice.specs.declared.verdict.Verdict.{Verdict}
 use Rattle.directives.specs.Acts.{applied}
 use Rattle.directives.specs.declared.fault.DirectiveFault.{DirectiveFault}
 use Rattle.mdl_ast.specs.declared.items.Item.{Item}
-use Rattle.command_words.specs.Requests.{Request, SessionRequest, ReplayRequest, PlanRequest, StressRequest, DirectRequest, run, live, replay, plan, asm, points, relog, stress, blocks, visi, advise, direct, request_of}
+use Rattle.command_words.specs.Requests.{Request, SessionRequest, ReplayRequest, PlanRequest, StressRequest, DirectRequest, run, live, replay, plan, asm, points, relog, stress, blocks, visi, advise, direct, profile, annotate, request_of}
 use Rattle.elf_form.specs.Meaning.{meaning_of}
 use Rattle.elf_form.specs.declared.fault.ElfFault.{ElfFault}
 use Rattle.elf_form.specs.declared.limits.TheConstants.{MAX_PROGRAM_LEN}
@@ -34,7 +34,7 @@ use Rattle.refusals.specs.Kinds.{fault_at}
 use Rattle.refusals.specs.Refusals.{Step, Then}
 use Rattle.refusals.specs.declared.configuration.ConfKind.TheVariants.{TooLong as TooLongConf}
 use Rattle.refusals.specs.declared.fault.Fault.{Fault}
-use Rattle.refusals.specs.declared.fault.Fault.TheVariants.{Usage, FileFault, BadProgram, BadConf, BadPick, BadLog, TooManyBlocks, BadDirectives, BadReport}
+use Rattle.refusals.specs.declared.fault.Fault.TheVariants.{Usage, FileFault, BadProgram, BadConf, BadPick, BadLog, TooManyBlocks, BadDirectives, BadReport, NoProcedure, NoLines, BadLines}
 use Rattle.refusals.specs.declared.log.LogCause.TheVariants.{TooLong as TooLongLog}
 use Rattle.refusals.specs.declared.program.ProgramFault.TheVariants.{TooLong}
 use Rattle.resource_tree.specs.Foci.{canonical}
@@ -51,6 +51,7 @@ use Rattle.commands.specs.Given.{inputs_with}
 use Rattle.commands.specs.Advising.{advice_texts, IsAdviseDue, IsReportContent}
 use Rattle.commands.specs.Output.{output}
 use Rattle.commands.specs.Blocks.{AreCounted}
+use Rattle.commands.specs.Profiles.{AreProfileTexts, IsAnnotation, IsBytesAnnotation}
 use Rattle.commands.specs.Directing.{MeansDirectives, AreDirectives, IsConfAfter, IsDirectDue, IsDirection, IsDirectivesContent, IsDirectRun, conf_with, or_bad_directives}
 use Rattle.commands.specs.Due.{IsDueFor, IsDue}
 use Rattle.commands.specs.Runs.{AreTexts, IsByWorkers, IsInOrder, IsOpened, IsPrepared, IsSession, IsSessionOf, IsStressDue, Order, report_alone, report_and_log, stress_order, stress_session, stress_sight, summary_of, views_of}
@@ -69,6 +70,7 @@ use Rattle.commands.specs.declared.logs.Log.{Log}
 use Rattle.commands.specs.declared.logs.TheConstants.{LOG_LIMIT}
 use Rattle.commands.specs.declared.texts.Texts.{Texts}
 use Rattle.commands.proofs.Counted.{counted_spared}
+use Rattle.commands.proofs.Profiled.{annotation_spared, profile_spared}
 
 -- ---- what names no file as unread
 
@@ -82,6 +84,9 @@ NotFile (BadLog place why) = ⊤
 NotFile (TooManyBlocks count) = ⊤
 NotFile (BadDirectives fault) = ⊤
 NotFile (BadReport place) = ⊤
+NotFile (NoProcedure name) = ⊤
+NotFile NoLines = ⊤
+NotFile (BadLines place) = ⊤
 
 abbrev Spares : {A : Type 0} → Result A Fault → Type 0
 Spares (Ok a) = ⊤
@@ -291,6 +296,11 @@ module _ (name : List ℕ) (P : Type 0) (sees : FileReading) (at_file : (other :
   at_request (Some (direct r)) = at_direct r
   at_request (Some (blocks r)) =
       of_either P (IsProgramOfFile sees r.program) (AreCounted r) (FileFault name) (at_program name P sees at_file r.program) (λ image e. absurd (counted_spared r image name e))
+  at_request (Some (profile r)) =
+      of_either P (IsProgramOfFile sees r.source.counted.program) (AreProfileTexts r) (FileFault name) (at_program name P sees at_file r.source.counted.program) (λ image e. absurd (profile_spared r image name e))
+  at_request (Some (annotate r)) =
+      of_either P (IsProgramContent sees r.source.counted.program) (IsBytesAnnotation r) (FileFault name) (at_content name P sees at_file MAX_PROGRAM_LEN (BadProgram TooLong) r.source.counted.program tt)
+      (λ bytes. of_either P (λ image. image ≡ image_of bytes) (IsAnnotation r bytes) (FileFault name) (λ e. absurd (spared (image_of bytes) name (image_spared bytes) e)) (λ image e. absurd (annotation_spared r bytes image name e)))
 
   at_words : (words : List (List ℕ)) → IsDue words sees (Err (FileFault name)) → P
   at_words words = at_request (request_of words)

@@ -1,6 +1,6 @@
 -- What is due for words and files.
 use Rattle.std.specs.Prelude.{◌≡◌, ℕ, Bool, true, false, List, Option, None, Some, Result, Ok, Err}
-use Rattle.command_words.specs.Requests.{Request, run, live, replay, plan, asm, points, relog, stress, blocks, visi, advise, direct, request_of}
+use Rattle.command_words.specs.Requests.{Request, run, live, replay, plan, asm, points, relog, stress, blocks, visi, advise, direct, profile, annotate, request_of}
 use Rattle.refusals.specs.Refusals.{Step}
 use Rattle.refusals.specs.declared.fault.Fault.{Fault}
 use Rattle.refusals.specs.declared.fault.Fault.TheVariants.{Usage}
@@ -9,6 +9,7 @@ use Rattle.commands.specs.Blocks.{IsBlocksDue}
 use Rattle.commands.specs.Directing.{IsDirectDue}
 use Rattle.commands.specs.Listing.{IsPointsDue, IsAsmDue}
 use Rattle.commands.specs.Plans.{IsPlanDue}
+use Rattle.commands.specs.Profiles.{IsProfileDue, IsAnnotateDue}
 use Rattle.commands.specs.Replays.{IsRelogDue, IsReplayDue}
 use Rattle.commands.specs.Runs.{IsRunDue, IsLiveDue, IsVisiDue, IsStressDue}
 use Rattle.commands.specs.FileReadings.{FileReading}
@@ -29,6 +30,8 @@ IsDueFor (Some (blocks r)) sees texts = IsBlocksDue r sees texts
 IsDueFor (Some (visi r)) sees texts = IsVisiDue r sees texts
 IsDueFor (Some (advise name)) sees texts = IsAdviseDue name sees texts
 IsDueFor (Some (direct r)) sees texts = IsDirectDue r sees texts
+IsDueFor (Some (profile r)) sees texts = IsProfileDue r sees texts
+IsDueFor (Some (annotate r)) sees texts = IsAnnotateDue r sees texts
 
 -- What is due for words and what was seen of files: the texts that were asked for, or the first fault.
 abbrev pub IsDue : List (List ℕ) → FileReading → Step Texts

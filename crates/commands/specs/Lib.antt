@@ -9,6 +9,7 @@ pub mod Replays
 pub mod Runs
 pub mod Preparing
 pub mod Blocks
+pub mod Profiles
 pub mod Advising
 pub mod Directing
 pub mod Listing

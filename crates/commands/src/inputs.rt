@@ -21,7 +21,11 @@ use refusals::{ConfFault, ConfKind, Fault, ProgramFault, Refusal};
 use std::alloc::Global;
 
 /// Reads a program file.
-fn read_program_file<F: Files>(alloc: Global, files: &mut F, name: &str) -> Result<Seq<u8>, Refusal>
+///
+/// # Errors
+///
+/// `Refusal::NoMemory` where memory runs out, or the first fault that is due.
+pub fn read_program_file<F: Files>(alloc: Global, files: &mut F, name: &str) -> Result<Seq<u8>, Refusal>
     ensures content { Comes result (IsProgramContent (reads (F.holds files.old) (F.faults files.old) (F.faults files.new)) name.now) }
     ensures short { IfOk result (λ bytes. length bytes ≤ MAX_PROGRAM_LEN) }
     ensures looks { Looks F.holds F.faults files.old files.new result }

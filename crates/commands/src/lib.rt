@@ -2,6 +2,7 @@
 #![tactic(auto)]
 
 mod advising;
+mod annotating;
 mod configuration;
 mod counting;
 mod directing;
@@ -9,11 +10,13 @@ mod files;
 mod finding;
 mod inputs;
 mod laws;
+mod line_reading;
 mod listing;
 mod loading;
 mod logs;
 mod opening;
 mod planning;
+mod profiling;
 mod preparing;
 mod replaying;
 mod running;
@@ -23,6 +26,7 @@ mod texts;
 mod viewing;
 
 pub use advising::advise;
+pub use annotating::annotate;
 pub use counting::blocks;
 pub use directing::direct;
 pub use finding::{Found, find};
@@ -30,6 +34,7 @@ pub use inputs::{Inputs, read_inputs};
 pub use laws::found_can_run;
 pub use listing::{asm, points};
 pub use planning::plan;
+pub use profiling::profile;
 pub use replaying::{relog, replay};
 pub use running::run;
 pub use sharing::live;

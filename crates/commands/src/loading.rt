@@ -25,7 +25,7 @@ pub fn bad_program(fault: ProgramFault) -> Refusal
 }
 
 /// Returns whether the bytes begin as those of an ELF file.
-fn begins_elf(bytes: &[u8]) -> bool
+pub fn begins_elf(bytes: &[u8]) -> bool
     ensures { result ≡ begins_elf bytes.now }
 {
     4 <= bytes.len() && &bytes[..4] == b"\x7fELF".as_slice()

@@ -9,7 +9,7 @@ use Rattle.advice.specs.declared.verdict.Verdict.{Verdict}
 use Rattle.elf_write.specs.Made.{elf_of}
 use Rattle.code_points.specs.Points.{points_of}
 use Rattle.code_points.specs.Procedures.{procedures_of, skipped_of}
-use Rattle.command_words.specs.Requests.{Request, SessionRequest, RunRequest, LiveRequest, ReplayRequest, PlanRequest, StressRequest, BlocksRequest, VisiRequest, DirectRequest, run, live, replay, plan, asm, points, relog, stress, blocks, visi, advise, direct}
+use Rattle.command_words.specs.Requests.{Request, SessionRequest, RunRequest, LiveRequest, ReplayRequest, PlanRequest, StressRequest, BlocksRequest, VisiRequest, DirectRequest, ProfileRequest, AnnotateRequest, run, live, replay, plan, asm, points, relog, stress, blocks, visi, advise, direct, profile, annotate}
 use Rattle.directives.proofs.Accepting.{prefixes_after}
 use Rattle.directives.specs.Acts.{applied}
 use Rattle.directives.specs.Applying.{IsAccepted}
@@ -51,7 +51,12 @@ use Rattle.whole_run.specs.Recorded.{log_of}
 use Rattle.whole_run.specs.Replayed.{WholeFit, misfit_of}
 use Rattle.code_points.specs.Objects.{objects_of}
 use Rattle.commands.specs.Advising.{IsAdviseDue, IsReportContent, advice_texts}
-use Rattle.commands.specs.Blocks.{AreCounted, IsBlocksDue}
+use Rattle.command_words.specs.declared.requests.AnnotationUnit.{AnnotationUnit}
+use Rattle.command_words.specs.declared.requests.AnnotationUnit.TheVariants as unit
+use Rattle.word_counts.specs.Profiles.{IsProfile}
+use Rattle.word_counts.specs.declared.profile.Profile.{Profile}
+use Rattle.commands.specs.Blocks.{AreCounted, IsBlocksDue, pace_of}
+use Rattle.commands.specs.Profiles.{AreAnnotation, AreProfileTexts, IsAnnotateDue, IsAnnotation, IsBytesAnnotation, IsProfileDue, IsProfiled, IsShown, IsUnitShown, chosen, line_parts, lines_shown, profile_texts, starts_of, words_shown}
 use Rattle.commands.specs.Directing.{AreDirectives, IsDirectDue, IsDirectRun, IsConfAfter, IsDirection, IsDirectivesContent, MeansDirectives, conf_with, or_bad_directives}
 use Rattle.commands.specs.Due.{IsDueFor}
 use Rattle.commands.specs.Found.{AreFound, IsFound, resources_of}
@@ -292,6 +297,34 @@ module _ (laws : AllLaws) (sees : FileReading) where
         let p = came (IsProgramOfFile sees q.program) (AreCounted q) texts due in
         (p.a, program_of sees q.program p.a (bytes q.program) p.first, p.next)
 
+    profile_tells : (q : ProfileRequest) → IsProfileDue q sees (Ok texts) → Tells (Some (profile q)) sees texts
+    profile_tells q due =
+        let p = came (IsProgramOfFile sees q.source.counted.program) (AreProfileTexts q) texts due in
+        let r = came (IsProfiled q.source p.a) (λ r t. t ≡ Ok (profile_texts q p.a r)) texts p.next in
+        (p.a, program_of sees q.source.counted.program p.a (bytes q.source.counted.program) p.first, r.a, r.first, ok_is texts (profile_texts q p.a r.a) r.next)
+
+    -- what is shown of an image's profile in a unit
+    abbrev IsUnitTold : AnnotationUnit → AnnotateRequest → List ℕ → Image → Option (List ℕ) → Type 0
+    IsUnitTold by q content image name =
+        (r : Profile) × IsProfile image (starts_of image q.source.also) q.source.counted.budget (pace_of q.source.counted) r × AreAnnotation by q content image name r texts
+
+    unit_tells : (by : AnnotationUnit) (q : AnnotateRequest) (content : List ℕ) (image : Image) (name : Option (List ℕ)) → IsUnitShown by q content image name (Ok texts) → IsUnitTold by q content image name
+    unit_tells unit.Words q content image name due =
+        let r = came (IsProfiled q.source image) (λ r t. t ≡ Ok (output (words_shown q image name r))) texts due in
+        (r.a, r.first, ok_is texts (output (words_shown q image name r.a)) r.next)
+    unit_tells unit.Lines q content image name due =
+        let l = came (λ parts. parts ≡ line_parts content) (λ parts. IsShown (lines_shown content parts image name) q image) texts due in
+        let r = came (IsProfiled q.source image) (λ r t. t ≡ Ok (output (lines_shown content l.a image name r))) texts l.next in
+        (r.a, r.first, (l.a, l.first, ok_is texts (output (lines_shown content l.a image name r.a)) r.next))
+
+    annotate_tells : (q : AnnotateRequest) → IsAnnotateDue q sees (Ok texts) → Tells (Some (annotate q)) sees texts
+    annotate_tells q due =
+        let b = came (IsProgramContent sees q.source.counted.program) (IsBytesAnnotation q) texts due in
+        let c = content_of sees 33554432 _ q.source.counted.program b.a b.first in
+        let p = came (λ image. image ≡ image_of b.a) (IsAnnotation q b.a) texts b.next in
+        let n = came (λ name. name ≡ chosen q.procedure p.a) (IsUnitShown q.unit q b.a p.a) texts p.next in
+        (b.a, c.told, p.a, record { are = bytes q.source.counted.program b.a c.told; short = c.few; means = sym p.first }, n.a, n.first, unit_tells q.unit q b.a p.a n.a n.next)
+
     points_tell : (name : List ℕ) → IsPointsDue name sees (Ok texts) → Tells (Some (points name)) sees texts
     points_tell name due =
         let text : Image → Texts = λ image. output (points_text (procedures_of image) (points_of image (procedures_of image)) (skipped_of image)) in
@@ -376,4 +409,6 @@ tells laws sees bytes texts (Some (points name)) range due = points_tell laws se
 tells laws sees bytes texts (Some (asm name)) range due = asm_tells laws sees bytes texts name due
 tells laws sees bytes texts (Some (relog name)) range due = relog_tells laws sees bytes texts name due
 tells laws sees bytes texts (Some (blocks q)) range due = blocks_tell laws sees bytes texts q due
+tells laws sees bytes texts (Some (profile q)) range due = profile_tells laws sees bytes texts q due
+tells laws sees bytes texts (Some (annotate q)) range due = annotate_tells laws sees bytes texts q due
 tells laws sees bytes texts (Some (advise name)) range due = advise_tells laws sees bytes texts name due

@@ -9,7 +9,7 @@ use Rattle.outside.specs.Causes.{count_up, Rose}
 use Rattle.outside.specs.Outside.{Holding, IsWhole, IsCalm}
 use Rattle.refusals.proofs.Steps.{IsOne}
 use Rattle.refusals.specs.declared.fault.Fault.{Fault}
-use Rattle.refusals.specs.declared.fault.Fault.TheVariants.{Usage, FileFault, BadProgram, BadConf, BadPick, BadLog, TooManyBlocks, BadDirectives, BadReport}
+use Rattle.refusals.specs.declared.fault.Fault.TheVariants.{Usage, FileFault, BadProgram, BadConf, BadPick, BadLog, TooManyBlocks, BadDirectives, BadReport, NoProcedure, NoLines, BadLines}
 use Rattle.commands.proofs.OneDue.{Laws, due_once, of_same}
 use Rattle.commands.proofs.Rising.{NotFile, rises}
 use Rattle.commands.specs.Due.{AreOne, is_live}
@@ -32,6 +32,9 @@ naming (BadLog place why) = Other (BadLog place why) tt
 naming (TooManyBlocks count) = Other (TooManyBlocks count) tt
 naming (BadDirectives fault) = Other (BadDirectives fault) tt
 naming (BadReport place) = Other (BadReport place) tt
+naming (NoProcedure name) = Other (NoProcedure name) tt
+naming NoLines = Other NoLines tt
+naming (BadLines place) = Other (BadLines place) tt
 
 same_bytes : (holding : Holding) (x y : List ℕ) → IsSome holding → IsWhole holding x → IsWhole holding y → x ≡ y
 same_bytes None x y told a b = absurd (cc)
@@ -54,6 +57,9 @@ module _ {F : Type 0} (holds : F → List ℕ → Holding) (faults : F → List 
   calm_of (TooManyBlocks count) other c = c
   calm_of (BadDirectives fault) other c = c
   calm_of (BadReport place) other c = c
+  calm_of (NoProcedure name) other c = c
+  calm_of NoLines other c = c
+  calm_of (BadLines place) other c = c
 
   seen_once : IsCalm faults old new → (name : List ℕ) → IsOne (reads (holds old) (faults old) (faults new) name)
   seen_once calm name (Ok x) (Ok y) a b = ap (λ (bytes : List ℕ). Ok bytes) (same_bytes (holds old name) x y (told name).0 a.0 b.0)

@@ -9,10 +9,10 @@ use Rattle.pn_types.specs.declared.settings.Settings.{Settings}
 use Rattle.command_words.proofs.Ranges.{number_is_at_most}
 use Rattle.command_words.specs.Commands.{command_named, form_of}
 use Rattle.command_words.specs.Grammar.{Given, Text, given_in, taken_of}
-use Rattle.command_words.specs.Numbers.{NumberOption, bins_option, budget_option, harts_option, instruments_option, number_between, number_given, quantum_option, views_option, width_option, workers_option}
-use Rattle.command_words.specs.Requests.{Request, SessionRequest, run, live, replay, plan, asm, points, relog, stress, blocks, visi, advise, direct, order_of, place_in, request_from, request_of, session_of, settings_of, start_given}
+use Rattle.command_words.specs.Numbers.{NumberOption, bins_option, budget_option, harts_option, instruments_option, number_between, number_given, quantum_option, top_option, views_option, width_option, workers_option}
+use Rattle.command_words.specs.Requests.{Request, SessionRequest, run, live, replay, plan, asm, points, relog, stress, blocks, visi, advise, direct, profile, annotate, blocks_of, profile_source, shape_given, unit_given, order_of, place_in, request_from, request_of, session_of, settings_of, start_given}
 use Rattle.command_words.specs.declared.commands.CommandName.{CommandName}
-use Rattle.command_words.specs.declared.commands.CommandName.TheVariants.{Run, Live, Replay, Asm, Points, Plan, Stress, Relog, Blocks, Visi, Advise, Direct}
+use Rattle.command_words.specs.declared.commands.CommandName.TheVariants.{Run, Live, Replay, Asm, Points, Plan, Stress, Relog, Blocks, Visi, Advise, Direct, Profile, Annotate}
 
 -- ---- options
 
@@ -96,6 +96,8 @@ IsRanged (blocks r) = Unit {0}
 IsRanged (visi r) = AreInRange r.session.settings
 IsRanged (advise report) = Unit {0}
 IsRanged (direct r) = AreInRange r.session.settings
+IsRanged (profile r) = Unit {0}
+IsRanged (annotate r) = Unit {0}
 
 some_is : (q r : Request) → ◌≡◌ {A = Option Request} (Some q) (Some r) → q ≡ r
 some_is q r e = cc
@@ -120,11 +122,7 @@ from_ranged Stress given q e =
     let few = between 1 200 p.a (place_in given (codes "procs")) p.is in
     subst IsRanged m.to (omega (arith, few.1))
 from_ranged Relog given q e = subst IsRanged (some_is _ q e) tt
-from_ranged Blocks given q e =
-    let h = found (number_given given harts_option) _ q e in
-    let b = found (number_given given budget_option) _ q h.then in
-    let m = mapped (order_of given) _ q b.then in
-    subst IsRanged m.to tt
+from_ranged Blocks given q e = let m = mapped (blocks_of given) _ q e in subst IsRanged m.to tt
 from_ranged Visi given q e =
     let s = found (session_of given) _ q e in
     let d = found (order_of given) _ q s.then in
@@ -135,6 +133,15 @@ from_ranged Direct given q e =
     let s = found (session_of given) _ q e in
     let m = mapped (order_of given) _ q s.then in
     subst IsRanged m.to (session_in_range given s.a s.is)
+from_ranged Profile given q e =
+    let s = found (profile_source given) _ q e in
+    let d = found (shape_given given) _ q s.then in
+    let m = mapped (number_given given top_option) _ q d.then in
+    subst IsRanged m.to tt
+from_ranged Annotate given q e =
+    let s = found (profile_source given) _ q e in
+    let m = mapped (unit_given given) _ q s.then in
+    subst IsRanged m.to tt
 
 pub ranged : (words : List Text) (q : Request) → request_of words ≡ Some q → IsRanged q
 ranged [] q e = absurd (cc)

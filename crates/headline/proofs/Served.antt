@@ -3,7 +3,7 @@ use Rattle.std.proofs.Common.{◌≡◌, inl, inr, ℕ, List, Some, Result, Ok, 
 use Rattle.outside.specs.Outside.{Holding}
 use Rattle.refusals.specs.Refusals.{Comes}
 use Rattle.refusals.specs.declared.fault.Fault.{Fault}
-use Rattle.refusals.specs.declared.fault.Fault.TheVariants.{Usage, FileFault, BadProgram, BadConf, BadPick, BadLog, TooManyBlocks, BadDirectives, BadReport}
+use Rattle.refusals.specs.declared.fault.Fault.TheVariants.{Usage, FileFault, BadProgram, BadConf, BadPick, BadLog, TooManyBlocks, BadDirectives, BadReport, NoProcedure, NoLines, BadLines}
 use Rattle.refusals.specs.declared.refusal.Refusal.{Refusal}
 use Rattle.refusals.specs.declared.refusal.Refusal.TheVariants as refusal
 use Rattle.commands.specs.Due.{IsDue}
@@ -37,6 +37,9 @@ module _ {F : Type 0} (holds : F → List ℕ → Holding) (faults : F → List 
   untold_fault (TooManyBlocks count) due looks = inl looks.counts
   untold_fault (BadDirectives fault) due looks = inl looks.counts
   untold_fault (BadReport place) due looks = inl looks.counts
+  untold_fault (NoProcedure name) due looks = inl looks.counts
+  untold_fault NoLines due looks = inl looks.counts
+  untold_fault (BadLines place) due looks = inl looks.counts
 
   pub untold : (r : Result Texts Refusal) → IsComing r → Looks holds faults old new r → IsUntold holds faults old new words
   untold (Ok texts) due looks = inl looks.counts
@@ -59,3 +62,6 @@ unlooked {A} {F} holds faults files (Err (refusal.Fault fault)) = record { same 
     by (TooManyBlocks count) = λ name. refl
     by (BadDirectives fault) = λ name. refl
     by (BadReport place) = λ name. refl
+    by (NoProcedure path) = λ name. refl
+    by NoLines = λ name. refl
+    by (BadLines place) = λ name. refl

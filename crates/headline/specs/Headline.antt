@@ -7,12 +7,13 @@ use Rattle.elf_write.specs.Made.{IsMeantAgain, elf_of}
 use Rattle.code_points.specs.Points.{points_of}
 use Rattle.code_points.specs.Procedures.{procedures_of, skipped_of}
 use Rattle.command_words.specs.Requests.{Request, SessionRequest, run, live, replay, visi, direct, stress}
-use Rattle.command_words.specs.Requests.{blocks, points, plan, asm, relog, advise}
-use Rattle.commands.specs.Blocks.{AreCounted}
+use Rattle.command_words.specs.Requests.{blocks, profile, annotate, points, plan, asm, relog, advise}
+use Rattle.commands.specs.Blocks.{AreCounted, pace_of}
 use Rattle.commands.specs.Found.{AreFound}
 use Rattle.commands.specs.Given.{inputs_with}
 use Rattle.commands.specs.Output.{output}
 use Rattle.commands.specs.Plans.{IsPlan}
+use Rattle.commands.specs.Profiles.{AreAnnotation, chosen, profile_texts, starts_of}
 use Rattle.commands.specs.Runnable.{IsConfOf, IsImageOf}
 use Rattle.commands.specs.Runs.{IsByWorkers, IsInOrder, Order, stress_order, stress_session, stress_sight}
 use Rattle.commands.specs.FileReadings.{FileReading}
@@ -38,6 +39,8 @@ use Rattle.session_spec.specs.Work.{IsWhole}
 use Rattle.session_spec.specs.declared.data.LatestSample.{LatestSample}
 use Rattle.stress_run.specs.Summary.{summary_text}
 use Rattle.visi_run.specs.Texts.{visi_text}
+use Rattle.word_counts.specs.Profiles.{IsProfile}
+use Rattle.word_counts.specs.declared.profile.Profile.{Profile}
 use Rattle.headline.specs.Followed.{AreFollowed}
 use Rattle.headline.specs.Honest.{IsHonest, end_of}
 
@@ -123,6 +126,16 @@ Tells (Some (stress q)) sees texts =
     × (texts ≡ output (summary_text q.procs r.parts))
 -- the counts are those of positions of the program's own run
 Tells (Some (blocks q)) sees texts = (image : Image) × IsProgramOf sees q.program image × AreCounted q image (Ok texts)
+-- The profile is of the program's own run: no number of a word is above its executions, and where no tick is untold each is these.
+Tells (Some (profile q)) sees texts =
+    (image : Image) × IsProgramOf sees q.source.counted.program image
+    × (r : Profile) × IsProfile image (starts_of image q.source.also) q.source.counted.budget (pace_of q.source.counted) r
+    × (texts ≡ profile_texts q image r)
+Tells (Some (annotate q)) sees texts =
+    (bytes : List ℕ) × sees q.source.counted.program (Ok bytes) × (image : Image) × IsImageOf bytes image
+    × (name : Option (List ℕ)) × (Ok name ≡ chosen q.procedure image)
+    × (r : Profile) × IsProfile image (starts_of image q.source.also) q.source.counted.budget (pace_of q.source.counted) r
+    × AreAnnotation q.unit q bytes image name r texts
 -- the procedures and points of the program
 Tells (Some (points name)) sees texts =
     (image : Image) × IsProgramOf sees name image

@@ -9,7 +9,8 @@ ghost use Rattle.refusals.specs.Refusals.{Comes};
 
 use command_words::{Request, WordFault, read_request};
 use commands::{
-    Texts, advise, asm, blocks, direct, live, plan, points, relog, replay, run, stress, visi,
+    Texts, advise, annotate, asm, blocks, direct, live, plan, points, profile, relog, replay, run,
+    stress, visi,
 };
 use outside::{Files, Gate};
 use refusals::{Fault, Refusal};
@@ -42,6 +43,8 @@ fn answer_request<F: Files, P: Progress>(
         Request::Blocks(request) => blocks(alloc, request, files),
         Request::Advise(report) => advise(alloc, report, files),
         Request::Direct(request) => direct(alloc, request, files, progress),
+        Request::Profile(request) => profile(alloc, request, files),
+        Request::Annotate(request) => annotate(alloc, request, files),
     }
 }
 

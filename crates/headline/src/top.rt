@@ -98,8 +98,9 @@ pub fn serve<F: Files, K: Sink, L: Sink, P: Progress>(
 /// - 0: the output gained what was asked for: the report of the program's whole run in the order of a seed, of one that workers share
 ///   or of one along the quanta of a log, the plan of a metric, the program's points, the ELF file of an assembly text, a log as it is
 ///   written now, the line that sums up the run of a program that was made from a seed, how often each basic block of a program was
-///   executed, what each view of a run was given, the directives that a report advises, or the report of the run under directives.
-///   The log of a run gained its quanta where one was asked for.
+///   executed, what each view of a run was given, the directives that a report advises, the report of the run under directives, the
+///   profile of a program, or its instructions with how often each was executed. The log gained the quanta of a run, or what
+///   callgrind's tools read of a profile, where one was asked for.
 /// - 2: the words are no command, and the output gained the line of that fault.
 /// - 3: a file could not be read, and the output gained a line with its name.
 /// - 4: the program is faulty, and the output gained the line of that fault.
@@ -112,6 +113,8 @@ pub fn serve<F: Files, K: Sink, L: Sink, P: Progress>(
 /// - 11: more basic blocks have a first word that can be moved than a hart has slots, and the output gained the line of that fault.
 /// - 12: the directives are faulty, and the output gained the line of that fault.
 /// - 13: the report is faulty, and the output gained the line of that fault.
+/// - 14: no procedure of the program has the name, and the output gained the line of that fault.
+/// - 15: the program has no line table, or a faulty one, and the output gained the line of that fault.
 pub fn paradyn<R: Threads + Wait + Sync, F: Files, K: Sink, L: Sink, G: Gate + Progress + Sync>(
     rt: &R,
     alloc: Global,

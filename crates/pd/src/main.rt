@@ -8,7 +8,7 @@ mod terminal;
 mod ticker;
 
 use crate::stderr_sink::StderrSink;
-use crate::terminal::is_terminal;
+use crate::terminal::{STANDARD_ERROR, STANDARD_OUTPUT, is_terminal};
 use crate::ticker::Ticker;
 use headline::{faults_text, log_name};
 use outside::{DropSink, FileSink, OsFiles, Sink, StdSink};
@@ -57,6 +57,14 @@ fn kind_of(words: &[String]) -> Kind {
     }
 }
 
+/// Returns what kind of file a command's second text is.
+fn second_kind_of(words: &[String]) -> Kind {
+    match words.first() {
+        Some(word) if word.as_str() == "profile" => Kind::Callgrind,
+        _ => Kind::Log,
+    }
+}
+
 /// Returns whether the file of this name may be written, and says why where it may not.
 fn may_write_to(rt: &HostRuntime, name: &str, kind: Kind, force: bool) -> bool {
     if force || may_write(&mut OsFiles::new(*rt), name, kind) {
@@ -66,6 +74,7 @@ fn may_write_to(rt: &HostRuntime, name: &str, kind: Kind, force: bool) -> bool {
         Kind::Log => "log",
         Kind::Report => "report",
         Kind::Elf => "ELF file",
+        Kind::Callgrind => "callgrind file",
     };
     let _ = eprintln!(rt;
         "pd: {name} is there and is no {what}: nothing was done. With --force it is written over."
@@ -100,7 +109,7 @@ fn serve_with<R: Threads + Wait + Sync, K: Sink + Drop, L: Sink>(
 ) -> Result<u8, NoMemory> {
     let err = StderrSink::new(*rt);
     let mut screen = Screen { out, err };
-    let ticker = Ticker::new(*rt, !serving.quiet && is_terminal(rt));
+    let ticker = Ticker::new(*rt, !serving.quiet && is_terminal(rt, STANDARD_ERROR));
     let words = serving.words.as_slice();
     let mut files = OsFiles::new(*rt);
     let alloc = rt.alloc();
@@ -137,7 +146,7 @@ fn serve<R: Threads + Wait + Sync>(
     serving: &Serving,
 ) -> Result<u8, NoMemory> {
     if let Some(name) = log_name(&serving.words)
-        && !may_write_to(rt, name, Kind::Log, serving.force)
+        && !may_write_to(rt, name, second_kind_of(&serving.words), serving.force)
     {
         return Ok(WRONG);
     }
@@ -193,7 +202,7 @@ fn answer<R: Threads + Wait + Sync>(
     threads: &R,
     words: &[String],
 ) -> Result<u8, NoMemory> {
-    match read_wish(rt.alloc(), words)? {
+    match read_wish(rt.alloc(), words, is_terminal(rt, STANDARD_OUTPUT))? {
         Wish::Print(text) => Ok(print(rt, &text)),
         Wish::Wrong(text) => {
             say(rt, &text);

@@ -70,6 +70,8 @@ impl<'a> Call<'a> {
             }),
             Request::Asm(name) | Request::Points(name) => Some(Call::of_program(name)),
             Request::Blocks(blocks) => Some(Call::of_program(blocks.program)),
+            Request::Profile(profile) => Some(Call::of_program(profile.source.counted.program)),
+            Request::Annotate(annotate) => Some(Call::of_program(annotate.source.counted.program)),
             Request::Relog(_) | Request::Stress(_) | Request::Advise(_) => None,
         }
     }

@@ -8,6 +8,7 @@ use crate::configurations::add_configuration;
 use crate::contents::{Contents, read_contents};
 use crate::directive_faults::add_directives;
 use crate::meanings::fault_meaning;
+use crate::procedure_names::add_unknown_procedure;
 use crate::programs::add_program;
 use crate::texts::add;
 use command_words::{WordFault, read_request};
@@ -15,6 +16,9 @@ use outside::Files;
 use pn_types::NoMemory;
 use std::alloc::{AllocError, Global};
 use std::str::from_utf8;
+
+/// How the fault of a name that no procedure has begins.
+const NO_PROCEDURE: &str = "no procedure ";
 
 /// Adds what the files of a call tell of a fault of one of them.
 fn add_details(
@@ -33,6 +37,11 @@ fn add_details(
         add_configuration(alloc, text, fault, contents, call)
     } else if let Some(fault) = fault.strip_prefix("bad directives: ") {
         add_directives(alloc, text, fault, contents)
+    } else if let Some(name) = fault.strip_prefix(NO_PROCEDURE) {
+        match &contents.program {
+            Some(program) => add_unknown_procedure(alloc, text, name, program),
+            None => Ok(()),
+        }
     } else {
         Ok(())
     }
@@ -79,7 +88,7 @@ pub fn explain<F: Files>(
     let Some(fault) = line.trim_end().strip_prefix("paradyn: ") else {
         return Ok(text);
     };
-    if fault.starts_with("bad ") {
+    if fault.starts_with("bad ") || fault.starts_with(NO_PROCEDURE) {
         look_again(alloc, &mut text, fault, words, files)?;
     }
     match fault

@@ -22,6 +22,7 @@ mod names;
 mod nearest;
 mod noting;
 mod plan_findings;
+mod procedure_names;
 mod program_names;
 mod programs;
 mod source_lines;

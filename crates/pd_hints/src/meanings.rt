@@ -157,7 +157,7 @@ const LOGS: [Meaning; 5] = [
     },
 ];
 
-const TOPICS: [Topic; 8] = [
+const TOPICS: [Topic; 11] = [
     Topic {
         begins: "usage",
         meanings: &[Meaning {
@@ -200,6 +200,27 @@ const TOPICS: [Topic; 8] = [
         meanings: &[Meaning {
             has: "",
             says: "The file isn't what `run`, `live`, `replay` or `direct` prints, or it was changed.\n",
+        }],
+    },
+    Topic {
+        begins: "no line table",
+        meanings: &[Meaning {
+            has: "",
+            says: "Compile it with -g, and leave that in: only then it tells which lines its instructions come from.\n",
+        }],
+    },
+    Topic {
+        begins: "bad line table at ",
+        meanings: &[Meaning {
+            has: "",
+            says: "Only DWARF 4 and 5 are read, as gcc writes them with -gdwarf-4 and -gdwarf-5.\n",
+        }],
+    },
+    Topic {
+        begins: "no procedure ",
+        meanings: &[Meaning {
+            has: "",
+            says: "`pd profile PROGRAM` lists the procedures, each as MODULE/NAME; NAME alone is enough.\n",
         }],
     },
 ];

@@ -156,8 +156,20 @@ impl Reading {
     }
 }
 
-/// Returns a line on each thing of a report that has to be heeded: wishes that were refused, harts that were cut or that ended by a fault, and
-/// a search of which most wasn't tested. Empty where there is none, and where the text is no report.
+/// Returns what has to be heeded of a profile, of which this is the first line: that it leaves ticks untold.
+fn profile_note(line: &str) -> &'static str {
+    let is_profile = line.starts_with("profile harts ") || line.starts_with("ticks ");
+    let is_exact = line.contains(" untold 0 ") || !line.contains(" untold");
+    if is_profile && !is_exact {
+        "pd: indirect jumps lead to words at which no block is known to begin; --also ADDR,.. says where, as in a jump table\n"
+    } else {
+        ""
+    }
+}
+
+/// Returns a line on each thing of a report that has to be heeded: wishes that were refused, harts that were cut or that ended by a fault,
+/// a search of which most wasn't tested, and a profile's ticks that are untold. Empty where there is none, and where the text is neither a
+/// report nor a profile.
 ///
 /// # Errors
 ///
@@ -169,7 +181,9 @@ pub fn notes(alloc: Global, report: &[u8]) -> Result<String, NoMemory> {
         nodes: 0,
         waiting: 0,
     };
-    if lines.next() != Some("paradyn report 1") {
+    let first = lines.next().unwrap_or("");
+    if first != "paradyn report 1" {
+        reading.text.push_str(profile_note(first))?;
         return Ok(reading.text);
     }
     for _ in 0..report.len() {

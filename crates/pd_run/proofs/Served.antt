@@ -5,7 +5,7 @@ use Rattle.commands.specs.declared.texts.Texts.{Texts}
 use Rattle.outside.specs.Outside.{Holding}
 use Rattle.refusals.specs.Faults.{fault_status}
 use Rattle.refusals.specs.declared.fault.Fault.{Fault}
-use Rattle.refusals.specs.declared.fault.Fault.TheVariants.{Usage, FileFault, BadProgram, BadConf, BadPick, BadLog, TooManyBlocks, BadDirectives, BadReport}
+use Rattle.refusals.specs.declared.fault.Fault.TheVariants.{Usage, FileFault, BadProgram, BadConf, BadPick, BadLog, TooManyBlocks, BadDirectives, BadReport, NoProcedure, NoLines, BadLines}
 use Rattle.headline.specs.Answers.{status_of, texts_of}
 use Rattle.headline.specs.Program.{OwedIsHonest}
 use Rattle.headline.specs.Serving.{AreGained, IsOwed, IsServedCall}
@@ -21,6 +21,9 @@ not_zero (BadLog place cause) e = omega arith
 not_zero (TooManyBlocks count) e = omega arith
 not_zero (BadDirectives fault) e = omega arith
 not_zero (BadReport place) e = omega arith
+not_zero (NoProcedure name) e = omega arith
+not_zero NoLines e = omega arith
+not_zero (BadLines place) e = omega arith
 
 module _ {F K L : Type 0} (holds : F → List ℕ → Holding) (faults : F → List ℕ → ℕ) (old new : F) (words : List (List ℕ))
     (hasK : K → Option (List ℕ)) (faultsK : K → ℕ) (oldK newK : K) (hasL : L → Option (List ℕ)) (faultsL : L → ℕ) (oldL newL : L) (status : ℕ)

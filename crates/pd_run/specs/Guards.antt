@@ -2,13 +2,14 @@
 use Rattle.std.specs.Prelude.{◌≡◌, ◌⊎◌, ℕ, ⊤, List, [], ◌∷◌, Some, None, codes, take, length}
 use Rattle.outside.specs.Outside.{Holding}
 use Rattle.pd_run.specs.declared.guarding.Kind.{Kind}
-use Rattle.pd_run.specs.declared.guarding.Kind.TheVariants.{Log, Report, Elf}
+use Rattle.pd_run.specs.declared.guarding.Kind.TheVariants.{Log, Report, Elf, Callgrind}
 
 -- how files of a kind begin
 abbrev pub beginning_of : Kind → List ℕ
 beginning_of Log = codes "PDYNLOG"
 beginning_of Report = codes "paradyn report "
 beginning_of Elf = 127 ∷ codes "ELF"
+beginning_of Callgrind = codes "# callgrind format"
 
 -- the file is empty, or begins as one of the kind
 abbrev pub IsOfKind : Kind → List ℕ → Type 0

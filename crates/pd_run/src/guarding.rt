@@ -15,6 +15,8 @@ pub enum Kind {
     Report,
     /// An ELF file.
     Elf,
+    /// What callgrind's tools read.
+    Callgrind,
 }
 
 impl Kind {
@@ -26,6 +28,7 @@ impl Kind {
             Kind::Log => b"PDYNLOG",
             Kind::Report => b"paradyn report ",
             Kind::Elf => b"\x7fELF",
+            Kind::Callgrind => b"# callgrind format",
         }
     }
 }

@@ -70,9 +70,6 @@ unique n b c (x ∷ xs) (y ∷ ys) f g h =
 
 -- ---- by_ticks
 
-ticks : Row → ℕ
-ticks x = x.ticks
-
 insert-falls : (x : Row) (k : Option ℕ) (ys : List Row) → AtMost k x.ticks → Falls (λ y. y.ticks) k ys → Falls (λ y. y.ticks) k (insert_by_ticks x ys)
 insert-falls x k [] l h = (l, tt)
 insert-falls x k (y ∷ ys) l h =

@@ -29,6 +29,7 @@ pub use lines::profile_lines;
 pub use names::has_procedure;
 pub use numbered_word::NumberedWord;
 pub use ordering::rows_by_ticks;
+pub use pieces::add_number;
 pub use procedure_row::ProcedureRow;
 pub use profiled_text::ProfiledText;
 pub use reading::{profiled_text as text_with_profile, words_of};

@@ -115,7 +115,7 @@ fn seen<R: Threads + Wait + Sync>(
     case: &Case,
     words: &[String],
 ) -> Result<Sight, NoMemory> {
-    match read_wish(alloc, words)? {
+    match read_wish(alloc, words, false)? {
         Wish::Print(text) => text_sight(alloc, &text, String::new(alloc)),
         Wish::Wrong(text) => Ok(fault_sight(alloc, 2, text)),
         Wish::Check(wanted) => look_over(alloc, case, &wanted),
