@@ -12,6 +12,7 @@ use Rattle.line_table.specs.Meaning.{meaning_of, paths_meaning}
 use Rattle.line_table.specs.declared.fault.LineFault.{LineFault}
 use Rattle.line_table.specs.declared.paths.UnitPaths.{UnitPaths}
 use Rattle.line_table.specs.declared.registers.LineTable.{LineTable}
+use Rattle.pn_types.specs.declared.code.Proc.{Proc}
 use Rattle.pn_types.specs.declared.image.Image.{Image}
 use Rattle.profile_text.specs.Names.{is_named}
 use Rattle.refusals.proofs.Steps.{IsOne, one_then}
@@ -40,7 +41,7 @@ of_parts a b c n u =
     ap (λ (x : Counts). made x a.numbers a.untold) c ∙ ap (λ (x : List ℕ). made b.counts x a.untold) n ∙ ap (λ (x : ℕ). made b.counts b.numbers x) u
 
 module _ (s : ProfileSource) (image : Image) where
-  abbrev starts : _
+  abbrev starts : List Proc
   starts = starts_of image s.also
 
   -- the numbers along a run, from counts
@@ -56,9 +57,9 @@ module _ (s : ProfileSource) (image : Image) where
       let counts = counts_once image starts s.counted.budget (pace_of s.counted) a.counts b.counts is.counted it.counted in
       let turns : is.counted.turns ≡ it.counted.turns = is.counted.owned ∙ sym it.counted.owned in
       let numbers : a.numbers ≡ b.numbers =
-          is.are ∙ ap (λ (ts : List ℕ). numbers_along ts a.counts) turns ∙ ap (λ (c : Counts). numbers_along it.counted.turns c) counts ∙ sym it.are in
+      is.are ∙ ap (λ (ts : List ℕ). numbers_along ts a.counts) turns ∙ ap (λ (c : Counts). numbers_along it.counted.turns c) counts ∙ sym it.are in
       let told : told_along is.counted.turns a.numbers ≡ told_along it.counted.turns b.numbers =
-          ap (λ (ts : List ℕ). told_along ts a.numbers) turns ∙ ap (λ (ns : List ℕ). told_along it.counted.turns ns) numbers in
+      ap (λ (ts : List ℕ). told_along ts a.numbers) turns ∙ ap (λ (ns : List ℕ). told_along it.counted.turns ns) numbers in
       let ticks : sum a.counts.ticks ≡ sum b.counts.ticks = ap (λ (c : Counts). sum c.ticks) counts in
       of_parts a b counts numbers (omega (arith, is.all, it.all, told, ticks))
 

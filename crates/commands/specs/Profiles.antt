@@ -1,6 +1,7 @@
 -- What is due for `profile` and `annotate`.
-use Rattle.std.specs.Prelude.{◌≡◌, ℕ, ◌++◌, true, false, if◌then◌else◌, is_some, List, [], Option, None, Some, Result, Ok, Err, map}
+use Rattle.std.specs.Prelude.{◌≡◌, ℕ, ◌++◌, true, false, if◌then◌else◌, List, [], Option, None, Some, Result, Ok, Err, map}
 use Rattle.std.specs.List.{list_any}
+use Rattle.std.specs.Option.{option_map_or}
 use Rattle.block_count.specs.Counted.{IsFault}
 use Rattle.block_count.specs.Heads.{heads_of}
 use Rattle.block_count.specs.declared.counts.CountFault.TheVariants as fault
@@ -57,12 +58,12 @@ shape_text Lines top image r = profile_lines image (procedures_of image) r false
 shape_text Words top image r = profile_lines image (procedures_of image) r true
 shape_text Table top image r = profile_table image (procedures_of image) r top
 
--- what is shown, and what callgrind's tools read where that is asked for
+-- what callgrind's tools read, where that is asked for
+abbrev pub callgrind_asked : ProfileRequest → Image → Profile → List ℕ
+callgrind_asked q image r = option_map_or (λ name. callgrind_text image (procedures_of image) r) q.callgrind []
+
 abbrev pub profile_texts : ProfileRequest → Image → Profile → Texts
-profile_texts q image r = record {
-  out = shape_text q.shape q.top image r;
-  log = if is_some q.callgrind then callgrind_text image (procedures_of image) r else [];
-}
+profile_texts q image r = record { out = shape_text q.shape q.top image r; log = callgrind_asked q image r }
 
 abbrev pub AreProfileTexts : ProfileRequest → Image → Step Texts
 AreProfileTexts q image = Then (IsProfiled q.source image) (λ r texts. texts ≡ Ok (profile_texts q image r))

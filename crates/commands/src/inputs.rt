@@ -25,7 +25,11 @@ use std::alloc::Global;
 /// # Errors
 ///
 /// `Refusal::NoMemory` where memory runs out, or the first fault that is due.
-pub fn read_program_file<F: Files>(alloc: Global, files: &mut F, name: &str) -> Result<Seq<u8>, Refusal>
+pub fn read_program_file<F: Files>(
+    alloc: Global,
+    files: &mut F,
+    name: &str,
+) -> Result<Seq<u8>, Refusal>
     ensures content { Comes result (IsProgramContent (reads (F.holds files.old) (F.faults files.old) (F.faults files.new)) name.now) }
     ensures short { IfOk result (λ bytes. length bytes ≤ MAX_PROGRAM_LEN) }
     ensures looks { Looks F.holds F.faults files.old files.new result }

@@ -1,6 +1,6 @@
 //! The command `profile`.
 
-ghost use Rattle.std.specs.Prelude.{◌≡◌, [], if◌then◌else◌, is_some, IfOk};
+ghost use Rattle.std.specs.Prelude.{◌≡◌, [], IfOk};
 ghost use Rattle.std.specs.Option.{option_map_or};
 ghost use Rattle.code_points.specs.Procedures.{AreProcsOf, procedures_of};
 ghost use Rattle.command_words.specs.Addresses.{addresses_of};
@@ -8,9 +8,8 @@ ghost use Rattle.command_words.specs.Asked.{asked_profile, asked_source};
 ghost use Rattle.command_words.specs.Requests.{HasRanges, IsBlocksInRange, profile};
 ghost use Rattle.commands.specs.FileReadings.{reads, Looks};
 ghost use Rattle.commands.specs.Given.{IsUnscratched};
-ghost use Rattle.commands.specs.Profiles.{AreProfileTexts, IsProfileDue, IsProfiled, shape_text, start_of, starts_of};
+ghost use Rattle.commands.specs.Profiles.{AreProfileTexts, IsProfileDue, IsProfiled, callgrind_asked, shape_text, start_of, starts_of};
 ghost use Rattle.pn_types.specs.Images.{IsImage};
-ghost use Rattle.profile_text.specs.Callgrind.{callgrind_text};
 ghost use Rattle.profile_text.specs.Totals.{Fits};
 ghost use Rattle.refusals.specs.Refusals.{Comes};
 
@@ -134,15 +133,14 @@ fn callgrind(
     profile: &Profile,
 ) -> Result<Vec<u8>, NoMemory>
     requires image { IsImage image.now }
+    requires procs { procs.now ≡ procedures_of image.now }
     requires are_procs { AreProcsOf image.now procs.now }
     requires fits { Fits image.now profile.now }
-    ensures { IfOk result (λ text. text.items
-        ≡ (if is_some request.now.callgrind then callgrind_text image.now procs.now profile.now else [])) }
+    ensures { IfOk result (λ text. text.items ≡ callgrind_asked (asked_profile request.now) image.now profile.now) }
 {
-    if request.callgrind.is_some() {
-        callgrind_text(alloc, image, procs, profile)
-    } else {
-        Ok(Vec::new(alloc))
+    match request.callgrind {
+        Some(_) => callgrind_text(alloc, image, procs, profile),
+        None => Ok(Vec::new(alloc)),
     }
 }
 

@@ -1,0 +1,16 @@
+use Rattle.std.proofs.Common.{rules, ◌≡◌, Ok}
+use Rattle.std.specs.Prelude.{option_map}
+use Rattle.command_words.specs.Asked.{asked_source}
+use Rattle.refusals.proofs.Steps.{handed_on}
+use Rattle.commands.specs.Output.{output}
+use Rattle.commands.specs.Profiles.{IsProfiled, lines_shown}
+use Rattle.commands.proofs.annotating.show_lines.Goals as goal
+
+pub returns-in_err-profile : goal.returns-in_err-profile
+returns-in_err-profile c =
+    handed_on (IsProfiled (asked_source c.args.request.now.source) c.args.program.image.now)
+    (λ r texts. texts ≡ Ok (output (lines_shown c.args.bytes.now c.args.parts.now c.args.program.image.now (option_map (λ s. s.now) c.args.name) r)))
+    c.in_err-profile.field-0.0 c.from_residual-in_err-profile.result c.from_residual-in_err-profile.ensures c.in_err-profile.ensures.profile
+
+pub returns : goal.returns
+returns c = (Ok c.in_ok-profile.profile, c.in_ok-profile.ensures.profile, search rules)
