@@ -61,7 +61,7 @@ use Rattle.commands.specs.Directing.{AreDirectives, IsDirectDue, IsDirectRun, Is
 use Rattle.commands.specs.Due.{IsDueFor}
 use Rattle.commands.specs.Found.{AreFound, IsFound, resources_of}
 use Rattle.commands.specs.Given.{inputs_with}
-use Rattle.commands.specs.Inputs.{AreInputs, IsElfFile, IsProgramOfFile, IsProgramContent, file_of, or_bad_text}
+use Rattle.commands.specs.Inputs.{AreInputs, IsElfFile, IsProgramOfFile, IsProgramContent, file_of, or_bad_text, image_of}
 use Rattle.commands.specs.Listing.{IsAsmDue, IsPointsDue}
 use Rattle.commands.specs.Logs.{IsLog, misfit_fault}
 use Rattle.commands.specs.Output.{output}
@@ -323,7 +323,8 @@ module _ (laws : AllLaws) (sees : FileReading) where
         let c = content_of sees 33554432 _ q.source.counted.program b.a b.first in
         let p = came (λ image. image ≡ image_of b.a) (IsAnnotation q b.a) texts b.next in
         let n = came (λ name. name ≡ chosen q.procedure p.a) (IsUnitShown q.unit q b.a p.a) texts p.next in
-        (b.a, c.told, p.a, record { are = bytes q.source.counted.program b.a c.told; short = c.few; means = sym p.first }, n.a, n.first, unit_tells q.unit q b.a p.a n.a n.next)
+        let t = unit_tells q.unit q b.a p.a n.a n.next in
+        (b.a, c.told, p.a, record { are = bytes q.source.counted.program b.a c.told; short = c.few; means = sym p.first }, n.a, n.first, t.0, t.1, t.2)
 
     points_tell : (name : List ℕ) → IsPointsDue name sees (Ok texts) → Tells (Some (points name)) sees texts
     points_tell name due =
