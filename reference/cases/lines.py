@@ -119,7 +119,7 @@ def with_lines(draw, content):
         elf = content if content[:4] == b"\x7fELF" else elf_writing.write(assembly.assemble(content))
     except (assembly.AsmFault, ValueError):
         return content
-    if len(elf) < 64:
+    if len(elf) < 64 or int.from_bytes(elf[40:48], "little") + 64 * int.from_bytes(elf[60:62], "little") > len(elf):
         return content
     lines = Lines(draw, 0x10000, 0x10000 + 200)
     table = bytearray(lines.content)
