@@ -134,11 +134,10 @@ def rows(content, unit):
             line += unit.line_base + n % unit.line_range
             row = False
         elif opcode == 0:
-            size, at = r.uleb(), r.at
-            if size == 0:
-                raise BadLines(at)
-            if at + size > unit.end:
-                raise BadLines(at)
+            place, size = r.at, r.uleb()
+            at = r.at
+            if size == 0 or at + size > unit.end:
+                raise BadLines(place)
             kind, operand = content[at], content[at + 1:at + size]
             r.at = at + size
             if kind == 1:
