@@ -19,3 +19,4 @@ pub use laws::{
 };
 pub use reading::read_verdicts;
 pub use verdict::Verdict;
+pub use words::{number_at, word_at};

@@ -1,5 +1,5 @@
 -- The lines of a report on the search.
-use Rattle.std.specs.Prelude.{ℕ, ◌+◌, if◌then◌else◌, Option, Some, None, List, [], ◌∷◌, ◌++◌, codes, length}
+use Rattle.std.specs.Prelude.{ℕ, Bool, ◌+◌, if◌then◌else◌, Option, Some, None, List, [], ◌∷◌, ◌++◌, codes, length}
 use Rattle.std.specs.Fmt.{decimal}
 use Rattle.pn_types.specs.Texts.{cause_text}
 use Rattle.pn_types.specs.declared.pick.BarCause.{BarCause}
@@ -14,8 +14,11 @@ use Rattle.report.specs.declared.parts.SearchPart.{SearchPart}
 use Rattle.report.specs.ShownTexts.{pair_text}
 
 -- how many nodes there are, and whether no more could be made
+abbrev pub nodes_line : ℕ → Bool → List ℕ
+nodes_line count full = codes "search nodes " ++ (decimal count ++ (if full then codes " full\n" else codes "\n"))
+
 abbrev pub search_head : SearchPart → List ℕ
-search_head s = codes "search nodes " ++ (decimal (length s.nodes) ++ (if s.full then codes " full\n" else codes "\n"))
+search_head s = nodes_line (length s.nodes) s.full
 
 -- the number of the node that it refines, if it refines one
 abbrev pub parent_text : Option ℕ → List ℕ

@@ -22,10 +22,13 @@ from_text None = codes "none"
 from_text (Some from) = decimal from
 
 -- what is shown in which units, from when on, in how many bins of how many samples
-abbrev pub histogram_line : ShownPart → List ℕ
-histogram_line s =
+abbrev pub histogram_head : ℕ → ShownPart → List ℕ
+histogram_head bins s =
     codes "histogram " ++ (pair_text s.metric s.focus ++ (codes " units " ++ (s.units ++ (codes " from " ++ (from_text s.from
-    ++ (codes " bins " ++ (decimal (length s.bins) ++ (codes " width " ++ (decimal s.width ++ codes "\n")))))))))
+    ++ (codes " bins " ++ (decimal bins ++ (codes " width " ++ (decimal s.width ++ codes "\n")))))))))
+
+abbrev pub histogram_line : ShownPart → List ℕ
+histogram_line s = histogram_head (length s.bins) s
 
 -- a bin: its number, its interval and its value
 abbrev pub bin_line : ℕ → Bin → List ℕ

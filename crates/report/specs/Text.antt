@@ -9,10 +9,13 @@ use Rattle.report.specs.SearchTexts.{search_lines}
 use Rattle.report.specs.ShownTexts.{refused_line, shown_lines}
 
 -- the numbers of the harts, of their ticks together, of the samples and of the function symbols that are no procedures
+abbrev pub numbers_line : ℕ → ℕ → ℕ → ℕ → List ℕ
+numbers_line harts ticks samples skipped =
+    codes "harts " ++ decimal harts ++ codes " ticks " ++ decimal ticks
+    ++ codes " samples " ++ decimal samples ++ codes " skipped " ++ decimal skipped ++ codes "\n"
+
 abbrev pub counts_line : ReportParts → ℕ → List ℕ
-counts_line parts skipped =
-    codes "harts " ++ decimal (length parts.harts) ++ codes " ticks " ++ decimal (sum_by (λ part. part.ticks) parts.harts)
-    ++ codes " samples " ++ decimal parts.samples ++ codes " skipped " ++ decimal skipped ++ codes "\n"
+counts_line parts skipped = numbers_line (length parts.harts) (sum_by (λ part. part.ticks) parts.harts) parts.samples skipped
 
 -- the line of a hart: its number, its ticks, and how and where it ended
 abbrev pub hart_line : ℕ → HartPart → List ℕ

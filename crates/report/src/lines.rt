@@ -1,7 +1,7 @@
 //! The text of a report.
 
 ghost use Rattle.std.specs.Prelude.{◌≡◌, ◌++◌, ◌≤◌, ◌<◌, ◌^◌, length, OnOk, IfOk, sum_by};
-ghost use Rattle.report.specs.Text.{counts_line, hart_line, hart_lines, output_lines, report_text};
+ghost use Rattle.report.specs.Text.{counts_line, hart_line, hart_lines, numbers_line, output_lines, report_text};
 
 use crate::parts::{HartPart, ReportParts};
 use crate::search_lines::add_search;
@@ -21,6 +21,27 @@ fn total_ticks(parts: &[HartPart]) -> u64
     total
 }
 
+/// Appends the line of the numbers of the harts, of their ticks together, of the samples and of the function symbols that are no procedures.
+///
+/// # Errors
+///
+/// `NoMemory` where memory runs out.
+pub fn add_numbers(
+    alloc: Global,
+    out: &mut Vec<u8>,
+    harts: usize,
+    ticks: u64,
+    samples: u64,
+    skipped: u32,
+) -> Result<(), NoMemory>
+    ensures { OnOk result (out.new.items ≡ out.old.items ++ numbers_line harts ticks samples skipped) }
+{
+    let line = format!(in alloc;
+        "harts {harts} ticks {ticks} samples {samples} skipped {skipped}\n"
+    )?;
+    out.extend_from_slice(line.as_bytes())
+}
+
 /// The line of the numbers of the whole run.
 fn add_counts(
     alloc: Global,
@@ -33,15 +54,20 @@ fn add_counts(
 {
     let harts = parts.harts.as_slice().len();
     let ticks = total_ticks(parts.harts.as_slice());
-    let samples = parts.samples;
-    let line = format!(in alloc;
-        "harts {harts} ticks {ticks} samples {samples} skipped {skipped}\n"
-    )?;
-    out.extend_from_slice(line.as_bytes())
+    add_numbers(alloc, out, harts, ticks, parts.samples, skipped)
 }
 
-/// The line of a hart.
-fn add_hart(alloc: Global, out: &mut Vec<u8>, number: u32, part: &HartPart) -> Result<(), NoMemory>
+/// Appends the line of a hart.
+///
+/// # Errors
+///
+/// `NoMemory` where memory runs out.
+pub fn add_hart(
+    alloc: Global,
+    out: &mut Vec<u8>,
+    number: u32,
+    part: &HartPart,
+) -> Result<(), NoMemory>
     ensures { OnOk result (out.new.items ≡ out.old.items ++ hart_line number part.now) }
 {
     let ticks = part.ticks;

@@ -2,7 +2,7 @@
 
 ghost use Rattle.std.specs.Prelude.{◌≡◌, ◌++◌, if◌then◌else◌, codes, OnOk};
 ghost use Rattle.pn_types.specs.Texts.{cause_text};
-ghost use Rattle.report.specs.SearchTexts.{node_line, node_lines, origin_text, parent_text, pick_of, search_head, search_lines, state_text, verdict_text, waiting_text};
+ghost use Rattle.report.specs.SearchTexts.{node_line, node_lines, nodes_line, origin_text, parent_text, pick_of, search_head, search_lines, state_text, verdict_text, waiting_text};
 
 use crate::parts::{NodePart, SearchPart};
 use crate::shown_lines::add_pair;
@@ -17,14 +17,29 @@ fn head_end(full: bool) -> &'static str
     if full { " full\n" } else { "\n" }
 }
 
-/// The first line.
+/// Appends the first line: how many nodes there are, and whether no more could be made.
+///
+/// # Errors
+///
+/// `NoMemory` where memory runs out.
+pub fn add_nodes_line(
+    alloc: Global,
+    out: &mut Vec<u8>,
+    count: usize,
+    full: bool,
+) -> Result<(), NoMemory>
+    ensures { OnOk result (out.new.items ≡ out.old.items ++ nodes_line count full) }
+{
+    let end = head_end(full);
+    let line = format!(in alloc; "search nodes {count}{end}")?;
+    out.extend_from_slice(line.as_bytes())
+}
+
+/// The first line of a search.
 fn add_head(alloc: Global, out: &mut Vec<u8>, part: &SearchPart) -> Result<(), NoMemory>
     ensures { OnOk result (out.new.items ≡ out.old.items ++ search_head part.now) }
 {
-    let count = part.nodes.as_slice().len();
-    let end = head_end(part.full);
-    let line = format!(in alloc; "search nodes {count}{end}")?;
-    out.extend_from_slice(line.as_bytes())
+    add_nodes_line(alloc, out, part.nodes.as_slice().len(), part.full)
 }
 
 /// The number of a node's parent.
@@ -119,8 +134,12 @@ fn add_origin(
     add_parent(alloc, out, part.node.parent)
 }
 
-/// The line of a node.
-fn add_node(
+/// Appends the line of a node.
+///
+/// # Errors
+///
+/// `NoMemory` where memory runs out.
+pub fn add_node(
     alloc: Global,
     out: &mut Vec<u8>,
     window: u32,

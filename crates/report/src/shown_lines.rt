@@ -2,7 +2,7 @@
 
 ghost use Rattle.std.specs.Prelude.{◌≡◌, ◌++◌, ◌<◌, ◌^◌, if◌then◌else◌, codes, flat_map, length, OnOk};
 ghost use Rattle.std.specs.List.{All};
-ghost use Rattle.report.specs.ShownTexts.{bin_line, bin_lines, from_text, histogram_line, pair_text, refused_line, shown_lines};
+ghost use Rattle.report.specs.ShownTexts.{bin_line, bin_lines, from_text, histogram_head, histogram_line, pair_text, refused_line, shown_lines};
 
 use crate::parts::{RefusedPart, ShownPart};
 use fold_hist::Bin;
@@ -33,8 +33,12 @@ fn add_wish(out: &mut Vec<u8>, show: bool) -> Result<(), NoMemory>
     }
 }
 
-/// The line of a wish that was refused.
-fn add_refused(alloc: Global, out: &mut Vec<u8>, part: &RefusedPart) -> Result<(), NoMemory>
+/// Appends the line of a wish that was refused.
+///
+/// # Errors
+///
+/// `NoMemory` where memory runs out.
+pub fn add_refused(alloc: Global, out: &mut Vec<u8>, part: &RefusedPart) -> Result<(), NoMemory>
     ensures { OnOk result (out.new.items ≡ out.old.items ++ refused_line part.now) }
 {
     out.extend_from_slice(b"refused ")?;
@@ -77,9 +81,18 @@ fn add_from(alloc: Global, out: &mut Vec<u8>, from: Option<u64>) -> Result<(), N
     }
 }
 
-/// The first line of a histogram.
-fn add_histogram(alloc: Global, out: &mut Vec<u8>, part: &ShownPart) -> Result<(), NoMemory>
-    ensures { OnOk result (out.new.items ≡ out.old.items ++ histogram_line part.now) }
+/// Appends the first line of a histogram of so many bins.
+///
+/// # Errors
+///
+/// `NoMemory` where memory runs out.
+pub fn add_histogram_head(
+    alloc: Global,
+    out: &mut Vec<u8>,
+    bins: usize,
+    part: &ShownPart,
+) -> Result<(), NoMemory>
+    ensures { OnOk result (out.new.items ≡ out.old.items ++ histogram_head bins part.now) }
 {
     out.extend_from_slice(b"histogram ")?;
     add_pair(out, &part.metric, &part.focus)?;
@@ -87,14 +100,24 @@ fn add_histogram(alloc: Global, out: &mut Vec<u8>, part: &ShownPart) -> Result<(
     out.extend_from_slice(part.units.bytes())?;
     out.extend_from_slice(b" from ")?;
     add_from(alloc, out, part.from)?;
-    let bins = part.bins.as_slice().len();
     let width = part.width;
     let rest = format!(in alloc; " bins {bins} width {width}\n")?;
     out.extend_from_slice(rest.as_bytes())
 }
 
-/// The line of a bin.
-fn add_bin(alloc: Global, out: &mut Vec<u8>, number: usize, bin: &Bin) -> Result<(), NoMemory>
+/// The first line of a histogram.
+fn add_histogram(alloc: Global, out: &mut Vec<u8>, part: &ShownPart) -> Result<(), NoMemory>
+    ensures { OnOk result (out.new.items ≡ out.old.items ++ histogram_line part.now) }
+{
+    add_histogram_head(alloc, out, part.bins.as_slice().len(), part)
+}
+
+/// Appends the line of a bin.
+///
+/// # Errors
+///
+/// `NoMemory` where memory runs out.
+pub fn add_bin(alloc: Global, out: &mut Vec<u8>, number: usize, bin: &Bin) -> Result<(), NoMemory>
     ensures { OnOk result (out.new.items ≡ out.old.items ++ bin_line number bin.now) }
 {
     let from = bin.from;
