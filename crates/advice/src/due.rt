@@ -123,8 +123,8 @@ fn first_lf(bytes: &[u8]) -> Option<usize>
     bytes.iter().position(|byte| *byte == b'\n')
 }
 
-/// The bytes up to the first LF.
-fn to_lf(bytes: &[u8]) -> Option<&[u8]>
+/// Returns the bytes up to the first LF, or None where there is none.
+pub fn to_lf(bytes: &[u8]) -> Option<&[u8]>
     ensures line { option_map (λ line. line.now) result ≡ to_lf bytes.now }
     ensures within { IfSome result (λ line. length line.now < length bytes.now) }
 {
@@ -132,8 +132,8 @@ fn to_lf(bytes: &[u8]) -> Option<&[u8]>
     Some(&bytes[..end])
 }
 
-/// What is left after `count` bytes, if an LF follows them.
-fn to_lf_at(count: u64, bytes: &[u8]) -> Option<&[u8]>
+/// Returns the first `count` bytes, if an LF follows them.
+pub fn to_lf_at(count: u64, bytes: &[u8]) -> Option<&[u8]>
     ensures line { option_map (λ line. line.now) result ≡ to_lf_at count bytes.now }
     ensures within { IfSome result (λ line. length line.now < length bytes.now) }
 {

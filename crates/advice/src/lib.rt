@@ -12,6 +12,7 @@ mod verdict;
 mod words;
 
 pub use directive_lines::advise;
+pub use due::{to_lf, to_lf_at};
 pub use fault::{ReportError, ReportFault};
 pub use hypothesis::MAX_THRESHOLD;
 pub use laws::{
@@ -19,4 +20,4 @@ pub use laws::{
 };
 pub use reading::read_verdicts;
 pub use verdict::Verdict;
-pub use words::{number_at, word_at};
+pub use words::{decimal_number, number_at, word_at};

@@ -41,8 +41,8 @@ fn decimal(digits: &[u8]) -> Option<u128>
     Some(value)
 }
 
-/// The number that a word spells, with 1 to 20 digits, if it is below 2^64.
-fn number(word: &[u8]) -> Option<u64>
+/// Returns the number that a word spells, with 1 to 20 digits, if it is below 2^64.
+pub fn decimal_number(word: &[u8]) -> Option<u64>
     ensures { result ≡ decimal_number word.now }
 {
     if word.is_empty() || word.len() > MOST_DIGITS {
@@ -137,9 +137,9 @@ fn is_as(form: &[u8], word: &[u8]) -> bool
     ensures { result ≡ is_as form.now word.now }
 {
     if says(form, b"NUMBER") {
-        number(word).is_some()
+        decimal_number(word).is_some()
     } else if says(form, b"PARENT") {
-        says(word, b"none") || number(word).is_some()
+        says(word, b"none") || decimal_number(word).is_some()
     } else if says(form, b"NAME") {
         is_name(word)
     } else if says(form, b"FOCUS") {
@@ -188,5 +188,5 @@ pub fn word_at(place: usize, line: &[u8]) -> &[u8]
 pub fn number_at(place: usize, line: &[u8]) -> u64
     ensures { result ≡ number_at place line.now }
 {
-    number(word_at(place, line)).unwrap_or(0)
+    decimal_number(word_at(place, line)).unwrap_or(0)
 }

@@ -1,0 +1,10 @@
+pub mod BinRead
+pub mod Bodies
+pub mod CausesRead
+pub mod Cuts
+pub mod HartRead
+pub mod HistogramRead
+pub mod NodeRead
+pub mod NumbersRead
+pub mod Ranges
+pub mod RefusedRead

@@ -1,0 +1,14 @@
+pub mod FirstLines
+pub mod LineEnds
+pub mod Printed
+pub mod ReportSpelled
+pub mod ReadSteps
+pub mod ReportRead
+pub mod RunRead
+pub mod SearchRead
+pub mod ShownRead
+pub mod Spaced
+pub mod Spelled
+pub mod TakeLines
+pub mod Taken
+pub mod Windows

@@ -1,0 +1,5 @@
+pub mod Drafts
+pub mod Reading
+pub mod Readable
+pub mod Taking
+pub mod Laws

@@ -1,0 +1,9 @@
+pub mod Found
+pub mod Joins
+pub mod Heights
+pub mod Rows
+pub mod Places
+pub mod Parents
+pub mod Counts
+pub mod LastLines
+pub mod CausesDown

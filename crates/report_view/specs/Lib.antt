@@ -1,0 +1,10 @@
+pub mod Signed
+pub mod Bars
+pub mod Foci
+pub mod Harts
+pub mod Histograms
+pub mod Trees
+pub mod Searches
+pub mod Causes
+pub mod View
+pub mod Laws
