@@ -10,7 +10,7 @@ use Rattle.command_words.specs.Commands.{form_of}
 use Rattle.command_words.specs.Grammar.{Text, each_once, is_among, taken_of}
 use Rattle.command_words.specs.Walks.{values_of}
 use Rattle.command_words.specs.declared.commands.CommandName.{CommandName}
-use Rattle.command_words.specs.declared.commands.CommandName.TheVariants.{Run, Live, Replay, Asm, Points, Plan, Stress, Relog, Blocks, Visi, Advise, Direct, Profile, Annotate}
+use Rattle.command_words.specs.declared.commands.CommandName.TheVariants.{Run, Live, Replay, Asm, Points, Plan, Stress, Relog, Blocks, Visi, Advise, Direct, Profile, Annotate, Show}
 use Rattle.command_words.proofs.Agreeing.{Same, same_values}
 use Rattle.command_words.proofs.Fitting.{fits_with}
 use Rattle.command_words.proofs.Machine.{machine_takes}
@@ -47,6 +47,7 @@ checked Advise = record { once = refl; unlike = refl; few = lit≤ tt; free = re
 checked Direct = record { once = refl; unlike = refl; few = lit≤ tt; free = refl; places = (refl, refl, refl, (refl, refl, refl, (refl, refl, refl, refl))); faults = λ words. refl; matches = λ words. refl }
 checked Profile = record { once = refl; unlike = refl; few = lit≤ tt; free = refl; places = (refl, refl, refl, refl); faults = λ words. refl; matches = λ words. refl }
 checked Annotate = record { once = refl; unlike = refl; few = lit≤ tt; free = refl; places = (refl, refl, refl, refl); faults = λ words. refl; matches = λ words. refl }
+checked Show = record { once = refl; unlike = refl; few = lit≤ tt; free = refl; places = (refl, refl, refl, refl); faults = λ words. refl; matches = λ words. refl }
 
 pub is_free_for : (name : CommandName) → is_simple_and_free (app_for name) ≡ true
 is_free_for name = (checked name).free

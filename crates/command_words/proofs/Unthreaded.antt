@@ -5,10 +5,10 @@ use Rattle.std.specs.Option.{option_and_then}
 use Rattle.std.specs.Str.{bytes_eq}
 use Rattle.command_words.specs.Commands.{commands, form_of}
 use Rattle.command_words.specs.Grammar.{Text, Given, given_in, taken_of}
-use Rattle.command_words.specs.Numbers.{number_between, number_given, harts_option, top_option}
-use Rattle.command_words.specs.Requests.{Request, begins_threaded, IsUnthreaded, place_in, request_from, request_of, session_of, order_of, blocks_of, profile_source, shape_given, unit_given}
+use Rattle.command_words.specs.Numbers.{number_between, number_given, harts_option, top_option, columns_option}
+use Rattle.command_words.specs.Requests.{Request, begins_threaded, IsUnthreaded, place_in, request_from, request_of, session_of, order_of, blocks_of, profile_source, shape_given, unit_given, bars_given}
 use Rattle.command_words.specs.declared.commands.CommandName.{CommandName}
-use Rattle.command_words.specs.declared.commands.CommandName.TheVariants.{Run, Live, Replay, Asm, Points, Plan, Stress, Relog, Blocks, Visi, Advise, Direct, Profile, Annotate}
+use Rattle.command_words.specs.declared.commands.CommandName.TheVariants.{Run, Live, Replay, Asm, Points, Plan, Stress, Relog, Blocks, Visi, Advise, Direct, Profile, Annotate, Show}
 
 abbrev pub AskUnthreaded : Option Request → Type 0
 AskUnthreaded None = ⊤
@@ -44,6 +44,9 @@ module _ (given : Given) where
   annotate_begins_none : AskUnthreaded (request_from Annotate given)
   annotate_begins_none = chained _ (profile_source given) (λ source. mapped _ (unit_given given) (λ by. tt))
 
+  show_begins_none : AskUnthreaded (request_from Show given)
+  show_begins_none = chained _ (number_given given columns_option) (λ columns. mapped _ (bars_given given) (λ bars. tt))
+
   direct_begins_none : AskUnthreaded (request_from Direct given)
   direct_begins_none =
       chained _ (session_of given) (λ session. mapped _ (order_of given) (λ order. tt))
@@ -74,6 +77,7 @@ module _ (word : Text) (words : List Text) (other : bytes_eq (codes "live") word
   named Blocks e = by Blocks blocks_begin_none
   named Profile e = by Profile profile_begins_none
   named Annotate e = by Annotate annotate_begins_none
+  named Show e = by Show show_begins_none
 
   either : (name : CommandName) (rest : Option CommandName) (b : Bool) → bytes_eq (form_of name).word word ≡ b → AskUnthreaded (option_and_then asked_as rest)
       → AskUnthreaded (option_and_then asked_as (cond b (Some name) rest))

@@ -7,7 +7,7 @@ use Rattle.command_words.specs.Addresses.{addresses_of}
 use Rattle.command_words.specs.Grammar.{Text, Form, Given, NamedValues, given_in, taken_of}
 use Rattle.command_words.specs.Requests as request
 use Rattle.command_words.specs.declared.requests.Request.{Request}
-use Rattle.command_words.specs.declared.requests.Request.TheVariants.{Run, Live, Replay, Plan, Asm, Points, Relog, Stress, Blocks, Visi, Advise, Direct, Profile, Annotate}
+use Rattle.command_words.specs.declared.requests.Request.TheVariants.{Run, Live, Replay, Plan, Asm, Points, Relog, Stress, Blocks, Visi, Advise, Direct, Profile, Annotate, Show}
 use Rattle.command_words.specs.declared.requests.SessionRequest.{SessionRequest}
 use Rattle.command_words.specs.declared.requests.RunRequest.{RunRequest}
 use Rattle.command_words.specs.declared.requests.LiveRequest.{LiveRequest}
@@ -18,6 +18,7 @@ use Rattle.command_words.specs.declared.requests.BlocksRequest.{BlocksRequest}
 use Rattle.command_words.specs.declared.requests.ProfileSource.{ProfileSource}
 use Rattle.command_words.specs.declared.requests.ProfileRequest.{ProfileRequest}
 use Rattle.command_words.specs.declared.requests.AnnotateRequest.{AnnotateRequest}
+use Rattle.command_words.specs.declared.requests.ShowRequest.{ShowRequest}
 use Rattle.command_words.specs.declared.requests.VisiRequest.{VisiRequest}
 use Rattle.command_words.specs.declared.requests.DirectRequest.{DirectRequest}
 
@@ -57,6 +58,9 @@ asked_profile r = record { source = asked_source r.source; shape = r.shape; top 
 abbrev pub asked_annotate : AnnotateRequest → request.AnnotateRequest
 asked_annotate r = record { source = asked_source r.source; procedure = option_map (λ s. s.now) r.procedure; unit = r.unit }
 
+abbrev pub asked_show : ShowRequest → request.ShowRequest
+asked_show r = record { report = r.report.now; columns = r.columns; bars = r.bars }
+
 abbrev pub asked : Request → request.Request
 asked (Run r) = request.run (asked_run r)
 asked (Live r) = request.live (asked_live r)
@@ -72,6 +76,7 @@ asked (Advise report) = request.advise report.now
 asked (Direct r) = request.direct (asked_direct r)
 asked (Profile r) = request.profile (asked_profile r)
 asked (Annotate r) = request.annotate (asked_annotate r)
+asked (Show r) = request.show (asked_show r)
 
 -- the values that clap's matches hold
 abbrev pub given_by : ArgMatches → Given

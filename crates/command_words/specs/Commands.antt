@@ -3,10 +3,10 @@ use Rattle.std.specs.Prelude.{List, [], ◌∷◌, Option, codes, find}
 use Rattle.std.specs.Str.{bytes_eq}
 use Rattle.command_words.specs.Grammar.{Text, Form}
 use Rattle.command_words.specs.declared.commands.CommandName.{CommandName}
-use Rattle.command_words.specs.declared.commands.CommandName.TheVariants.{Run, Live, Replay, Asm, Points, Plan, Stress, Relog, Blocks, Visi, Advise, Direct, Profile, Annotate}
+use Rattle.command_words.specs.declared.commands.CommandName.TheVariants.{Run, Live, Replay, Asm, Points, Plan, Stress, Relog, Blocks, Visi, Advise, Direct, Profile, Annotate, Show}
 
 abbrev pub commands : List CommandName
-commands = Run ∷ Live ∷ Replay ∷ Asm ∷ Points ∷ Plan ∷ Stress ∷ Relog ∷ Blocks ∷ Visi ∷ Advise ∷ Direct ∷ Profile ∷ Annotate ∷ []
+commands = Run ∷ Live ∷ Replay ∷ Asm ∷ Points ∷ Plan ∷ Stress ∷ Relog ∷ Blocks ∷ Visi ∷ Advise ∷ Direct ∷ Profile ∷ Annotate ∷ Show ∷ []
 
 abbrev pub form_of : CommandName → Form
 form_of Run = record {
@@ -59,6 +59,7 @@ form_of Annotate = record {
   places = codes "program" ∷ [];
   options = codes "harts" ∷ codes "seed" ∷ codes "quantum" ∷ codes "budget" ∷ codes "also" ∷ codes "procedure" ∷ codes "by" ∷ [];
 }
+form_of Show = record { word = codes "show"; places = codes "report" ∷ []; options = codes "columns" ∷ codes "bars" ∷ [] }
 
 -- the command whose own word this is
 abbrev pub command_named : Text → Option CommandName

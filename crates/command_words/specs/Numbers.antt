@@ -49,6 +49,10 @@ instruments_option = record { name = codes "instruments"; least = 1; most = MAX_
 abbrev pub top_option : NumberOption
 top_option = record { name = codes "top"; least = 1; most = 1000000; default = 20 }
 
+-- how many columns a report is shown in
+abbrev pub columns_option : NumberOption
+columns_option = record { name = codes "columns"; least = 20; most = 1000; default = 80 }
+
 -- the number that an option gives, or its default where it isn't given
 abbrev pub number_given : Given → NumberOption → Option ℕ
 number_given given option = option_map_or (number_between option.least option.most) (given option.name) (Some option.default)

@@ -10,11 +10,13 @@ use Rattle.pn_types.specs.declared.settings.Start.TheVariants.{Cold, Warm}
 use Rattle.command_words.specs.Grammar.{Text, Given, given_in, taken_of}
 use Rattle.command_words.specs.Addresses.{also_given}
 use Rattle.command_words.specs.Commands.{form_of, command_named}
-use Rattle.command_words.specs.Numbers.{number_between, number_given, harts_option, workers_option, seed_option, quantum_option, budget_option, bins_option, width_option, instruments_option, views_option, top_option}
+use Rattle.command_words.specs.Numbers.{number_between, number_given, harts_option, workers_option, seed_option, quantum_option, budget_option, bins_option, width_option, instruments_option, views_option, top_option, columns_option}
 use Rattle.command_words.specs.declared.commands.CommandName.{CommandName}
-use Rattle.command_words.specs.declared.commands.CommandName.TheVariants.{Run, Live, Replay, Asm, Points, Plan, Stress, Relog, Blocks, Visi, Advise, Direct, Profile, Annotate}
+use Rattle.command_words.specs.declared.commands.CommandName.TheVariants.{Run, Live, Replay, Asm, Points, Plan, Stress, Relog, Blocks, Visi, Advise, Direct, Profile, Annotate, Show}
 use Rattle.command_words.specs.declared.requests.AnnotationUnit.{AnnotationUnit}
 use Rattle.command_words.specs.declared.requests.AnnotationUnit.TheVariants as unit
+use Rattle.command_words.specs.declared.requests.BarStyle.{BarStyle}
+use Rattle.command_words.specs.declared.requests.BarStyle.TheVariants as style
 use Rattle.command_words.specs.declared.requests.ProfileShape.{ProfileShape}
 use Rattle.command_words.specs.declared.requests.ProfileShape.TheVariants.{Lines, Words, Table}
 use Rattle.command_words.specs.declared.requests.TurnOrder.{TurnOrder}
@@ -109,6 +111,12 @@ pub record AnnotateRequest : Type 0 where
   pub procedure : Option Text
   pub unit : AnnotationUnit
 
+pub record ShowRequest : Type 0 where
+  pub report : Text
+  -- how many columns there are
+  pub columns : ℕ
+  pub bars : BarStyle
+
 pub record VisiRequest : Type 0 where
   pub session : SessionRequest
   pub order : TurnOrder
@@ -136,6 +144,7 @@ pub data Request : Type 0 where
   direct : DirectRequest → Request
   profile : ProfileRequest → Request
   annotate : AnnotateRequest → Request
+  show : ShowRequest → Request
 
 -- ---- from values to requests
 
@@ -241,6 +250,21 @@ annotate_request given =
     (unit_given given))
     (profile_source given)
 
+-- `blocks` or `ascii`
+abbrev pub bars_named : Text → Option BarStyle
+bars_named text = if bytes_eq text (codes "blocks") then Some style.Blocks else if bytes_eq text (codes "ascii") then Some style.Ascii else None
+
+-- the bars that are given, or `blocks` where none are
+abbrev pub bars_given : Given → Option BarStyle
+bars_given given = option_map_or bars_named (given (codes "bars")) (Some style.Blocks)
+
+abbrev pub show_request : Given → Option Request
+show_request given =
+    option_and_then (λ columns. option_map (λ bars.
+    show (record { report = place_in given (codes "report"); columns = columns; bars = bars }))
+    (bars_given given))
+    (number_given given columns_option)
+
 abbrev pub visi_request : Given → Option Request
 visi_request given =
     option_and_then (λ session. option_and_then (λ order. option_map (λ views.
@@ -271,6 +295,7 @@ request_from Advise given = Some (advise (place_in given (codes "report")))
 request_from Direct given = direct_request given
 request_from Profile given = profile_request given
 request_from Annotate given = annotate_request given
+request_from Show given = show_request given
 
 -- What the words ask for; none where they are no command.
 abbrev pub request_of : List Text → Option Request
@@ -302,6 +327,7 @@ IsUnthreaded (advise report) = Unit {0}
 IsUnthreaded (direct r) = Unit {0}
 IsUnthreaded (profile r) = Unit {0}
 IsUnthreaded (annotate r) = Unit {0}
+IsUnthreaded (show r) = Unit {0}
 
 -- ---- ranges
 
@@ -330,3 +356,4 @@ HasRanges (advise report) = Unit {0}
 HasRanges (direct r) = AreInRange r.session.settings × IsOrderInRange r.order
 HasRanges (profile r) = IsBlocksInRange r.source.counted × ((1 ≤ r.top) × (r.top ≤ 1000000))
 HasRanges (annotate r) = IsBlocksInRange r.source.counted
+HasRanges (show r) = (20 ≤ r.columns) × (r.columns ≤ 1000)

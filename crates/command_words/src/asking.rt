@@ -20,12 +20,13 @@ use crate::requests::{
     ProfileRequest, ProfileShape, ProfileSource, ReplayRequest, Request, RunRequest,
     SessionRequest, StressRequest, TurnOrder, VisiRequest,
 };
+use crate::show_asking::show_request;
 use pn_text::number;
 use pn_types::{Settings, Start};
 use std::alloc::Global;
 
 /// Returns the positional word of this name.
-fn place<'a, G: Given<'a>>(given: &G, name: &str) -> &'a str
+pub(crate) fn place<'a, G: Given<'a>>(given: &G, name: &str) -> &'a str
     ensures { result.now ≡ place_in (G.given given.now) name.now }
 {
     given.value(name).unwrap_or("")
@@ -42,7 +43,7 @@ fn number_between(text: &str, least: u64, most: u64) -> Option<u64>
 }
 
 /// Returns the number that an option gives, or its default where it isn't given.
-fn number_given<'a, 'n, G: Given<'a>>(given: &G, option: NumberOption<'n>) -> Option<u64>
+pub(crate) fn number_given<'a, 'n, G: Given<'a>>(given: &G, option: NumberOption<'n>) -> Option<u64>
     ensures number { result ≡ number_given (G.given given.now) (option_seen option.entry) }
     ensures range { IfSome result (λ n. (option.entry.least ≤ n) × (n ≤ option.entry.most)) }
 {
@@ -333,6 +334,7 @@ pub fn request_from<'a, G: Given<'a>>(name: CommandName, given: &G) -> Option<Re
         CommandName::Direct => direct_request(given),
         CommandName::Profile => profile_request(given),
         CommandName::Annotate => annotate_request(given),
+        CommandName::Show => show_request(given),
     }
 }
 

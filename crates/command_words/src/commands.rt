@@ -24,10 +24,11 @@ pub enum CommandName {
     Direct,
     Profile,
     Annotate,
+    Show,
 }
 
 /// All commands.
-const COMMANDS: [CommandName; 14] = [
+const COMMANDS: [CommandName; 15] = [
     CommandName::Run,
     CommandName::Live,
     CommandName::Replay,
@@ -42,6 +43,7 @@ const COMMANDS: [CommandName; 14] = [
     CommandName::Direct,
     CommandName::Profile,
     CommandName::Annotate,
+    CommandName::Show,
 ];
 
 const RUN_OPTIONS: [&str; 9] = [
@@ -115,7 +117,7 @@ const ANNOTATE_OPTIONS: [&str; 7] = [
 ];
 
 /// What each command takes, in the order of the commands.
-const FORMS: [Form; 14] = [
+const FORMS: [Form; 15] = [
     Form {
         word: "run",
         places: &["program", "conf"],
@@ -185,6 +187,11 @@ const FORMS: [Form; 14] = [
         word: "annotate",
         places: &["program"],
         options: &ANNOTATE_OPTIONS,
+    },
+    Form {
+        word: "show",
+        places: &["report"],
+        options: &["columns", "bars"],
     },
 ];
 

@@ -12,6 +12,7 @@ mod matching;
 mod names;
 mod numbers;
 mod requests;
+mod show_asking;
 mod values;
 mod walking;
 mod word_kind;
@@ -23,7 +24,7 @@ pub use logging::log_name;
 pub use matching::WordFault;
 pub use numbers::MAX_VIEWS;
 pub use requests::{
-    AnnotateRequest, AnnotationUnit, BlocksRequest, DirectRequest, LiveRequest, PlanRequest,
-    ProfileRequest, ProfileShape, ProfileSource, ReplayRequest, Request, RunRequest,
-    SessionRequest, StressRequest, TurnOrder, VisiRequest,
+    AnnotateRequest, AnnotationUnit, BarStyle, BlocksRequest, DirectRequest, LiveRequest,
+    PlanRequest, ProfileRequest, ProfileShape, ProfileSource, ReplayRequest, Request, RunRequest,
+    SessionRequest, ShowRequest, StressRequest, TurnOrder, VisiRequest,
 };

@@ -92,6 +92,14 @@ pub const TOP: NumberOption<'static> = NumberOption {
     default: 20,
 };
 
+/// The columns in which a report is shown.
+pub const COLUMNS: NumberOption<'static> = NumberOption {
+    name: "columns",
+    least: 20,
+    most: 1_000,
+    default: 80,
+};
+
 /// The instruments that are allowed at once.
 pub const INSTRUMENTS: NumberOption<'static> = NumberOption {
     name: "instruments",

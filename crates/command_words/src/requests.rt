@@ -139,6 +139,25 @@ pub struct AnnotateRequest<'a> {
     pub unit: AnnotationUnit,
 }
 
+/// What the bars of histograms are made of.
+#[derive(Clone, Copy, PartialEq, Eq, Drop)]
+pub enum BarStyle {
+    /// Unicode's blocks, by eighths.
+    Blocks,
+    /// ASCII signs.
+    Ascii,
+}
+
+/// What `show` is asked for.
+#[derive(Clone, Copy, Drop)]
+pub struct ShowRequest<'a> {
+    /// The name of the report's file.
+    pub report: &'a str,
+    /// How many columns there are, from 20 to 1,000.
+    pub columns: u32,
+    pub bars: BarStyle,
+}
+
 /// What `visi` is asked for.
 #[derive(Clone, Copy, Drop)]
 pub struct VisiRequest<'a> {
@@ -188,4 +207,6 @@ pub enum Request<'a> {
     Profile(ProfileRequest<'a>),
     /// To show the words of a program with how often each is executed.
     Annotate(AnnotateRequest<'a>),
+    /// To show a report to a person.
+    Show(ShowRequest<'a>),
 }

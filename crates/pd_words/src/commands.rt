@@ -2,7 +2,7 @@
 
 use crate::rows::{CommandRow, Server};
 
-static COMMANDS: [CommandRow; 17] = [
+static COMMANDS: [CommandRow; 18] = [
     CommandRow {
         word: "run",
         server: Server::Paradyn,
@@ -77,6 +77,16 @@ static COMMANDS: [CommandRow; 17] = [
         optional: &["PROCEDURE"],
         summary: "The words of procedures, with how often each is executed",
         example: "Example: pd annotate words.elf count -n 4",
+    },
+    CommandRow {
+        word: "show",
+        server: Server::Paradyn,
+        words: &[
+            "REPORT", "columns", "ascii", "bars", "output", "force", "quiet",
+        ],
+        optional: &[],
+        summary: "A report as a person looks at it: bars, and the search as a tree",
+        example: "Example: pd show words.report",
     },
     CommandRow {
         word: "live",

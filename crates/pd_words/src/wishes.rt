@@ -58,7 +58,7 @@ pub enum Wish {
 /// What is said where a number or an address isn't written as `paradyn` writes them, or two shapes are asked for.
 const BAD_VALUE: &str = "\
 error: a number is 1 to 10 decimal digits with no sign before them; an address is 0x and hexadecimal digits, with a comma before the \
-next; one of --table, --words and --show is enough\n\nFor more information, try '--help'.\n";
+next; one of --table, --words and --show is enough, as one of --ascii and --bars\n\nFor more information, try '--help'.\n";
 
 /// What is said where there is no command.
 const NO_COMMAND: &str = "error: there is no command\n\nFor more information, try '--help'.\n";

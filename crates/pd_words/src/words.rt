@@ -16,6 +16,8 @@ const SHAPES: [&str; 3] = ["lines", "words", "table"];
 
 const UNITS: [&str; 2] = ["words", "lines"];
 
+const STYLES: [&str; 2] = ["blocks", "ascii"];
+
 /// What most positional words have in common.
 const PLACE: WordRow = WordRow {
     kind: Kind::Place,
@@ -41,7 +43,7 @@ const FLAG: WordRow = WordRow {
     ..PLACE
 };
 
-static WORDS: [WordRow; 34] = [
+static WORDS: [WordRow; 37] = [
     WordRow {
         name: "PROGRAM",
         what: "The program, an ELF file or an assembly text",
@@ -226,6 +228,26 @@ static WORDS: [WordRow; 34] = [
         value: "UNIT",
         values: Values::Words(&UNITS),
         what: "What is shown with its numbers: words or lines of source",
+        ..OPTION
+    },
+    WordRow {
+        name: "columns",
+        values: Values::Number(20, 1_000),
+        default: Some("80"),
+        what: "How wide what is shown may be, 20 to 1000",
+        ..OPTION
+    },
+    WordRow {
+        kind: Kind::Choice("bars", "ascii"),
+        name: "ascii",
+        what: "Shows bars of ASCII signs",
+        ..FLAG
+    },
+    WordRow {
+        name: "bars",
+        value: "STYLE",
+        values: Values::Words(&STYLES),
+        what: "What bars are made of: blocks or ascii",
         ..OPTION
     },
     WordRow {
