@@ -1,6 +1,6 @@
 -- What is due is unique where each file was seen as one thing.
 use Rattle.std.proofs.Common.{◌≡◌, ℕ, Bool, true, false, List, Option, Some, None, Result, Ok, Err, refl, sym, ap, ◌∙◌}
-use Rattle.command_words.specs.Requests.{Request, SessionRequest, LiveRequest, ReplayRequest, PlanRequest, DirectRequest, run, live, replay, plan, asm, points, relog, stress, blocks, visi, advise, direct, profile, annotate, request_of}
+use Rattle.command_words.specs.Requests.{Request, SessionRequest, LiveRequest, ReplayRequest, PlanRequest, DirectRequest, ShowRequest, run, live, replay, plan, asm, points, relog, stress, blocks, visi, advise, direct, profile, annotate, show, request_of}
 use Rattle.command_words.specs.declared.requests.TurnOrder.{TurnOrder}
 use Rattle.advice.specs.Reading.{verdicts_of}
 use Rattle.directives.specs.Acts.{applied}
@@ -32,6 +32,7 @@ use Rattle.refusals.specs.declared.log.LogCause.TheVariants.{TooLong as TooLongL
 use Rattle.refusals.specs.declared.program.ProgramFault.TheVariants.{TooLong}
 use Rattle.refusals.specs.declared.fault.Fault.{Fault}
 use Rattle.refusals.specs.declared.fault.Fault.TheVariants.{Usage, BadProgram, BadConf, BadLog, BadDirectives, BadReport}
+use Rattle.report_reader.specs.Reading.{report_in}
 use Rattle.resource_tree.specs.Foci.{OneSelection, canonical}
 use Rattle.resource_tree.specs.Resources.{Resources}
 use Rattle.session_spec.specs.Inputs.{Inputs as SessionInputs}
@@ -40,6 +41,7 @@ use Rattle.session_spec.specs.declared.data.RefusedWish.{RefusedWish}
 use Rattle.whole_run.specs.Replayed.{misfit_of}
 use Rattle.whole_run.specs.Seeded.{OneSeeded}
 use Rattle.commands.specs.Advising.{advice_texts, IsAdviseDue, IsReportContent}
+use Rattle.commands.specs.Showing.{report_view_texts, IsShowDue}
 use Rattle.commands.specs.Output.{output}
 use Rattle.commands.specs.Blocks.{AreCounted}
 use Rattle.commands.specs.Profiles.{AreProfileTexts, IsBytesAnnotation}
@@ -262,6 +264,11 @@ module _ (laws : Laws) where
         one_then (IsReportContent sees name) (λ bytes texts. texts ≡ advice_texts (verdicts_of bytes)) (content_once REPORT_LIMIT (BadReport REPORT_LIMIT) name)
         (λ bytes. equal_once (advice_texts (verdicts_of bytes)))
 
+    show_due_once : (q : ShowRequest) → IsOne (IsShowDue q sees)
+    show_due_once q =
+        one_then (IsReportContent sees q.report) (λ bytes texts. texts ≡ report_view_texts q (report_in bytes)) (content_once REPORT_LIMIT (BadReport REPORT_LIMIT) q.report)
+        (λ bytes. equal_once (report_view_texts q (report_in bytes)))
+
     directions_once : (name : List ℕ) → IsOne (AreDirectives sees name)
     directions_once name =
         one_then (IsDirectivesContent sees name) MeansDirectives (content_once DIRECTIVES_LIMIT (BadDirectives (fault_at 0 0 TooLongConf)) name) directives_once
@@ -309,6 +316,7 @@ module _ (laws : Laws) where
         one_then (IsProgramOfFile sees r.source.counted.program) (AreProfileTexts r) (program_once sees once r.source.counted.program) (profile_once r)
     due_for_once (Some (annotate r)) other =
         one_then (IsProgramContent sees r.source.counted.program) (IsBytesAnnotation r) (content_once sees once MAX_PROGRAM_LEN (BadProgram TooLong) r.source.counted.program) (annotation_once r)
+    due_for_once (Some (show q)) other = show_due_once sees once q
 
     due_for_alike : (asked : Option Request) (a b : Result Texts Fault) → IsDueFor asked sees a → IsDueFor asked sees b → AreLike a b
     due_for_alike None a b d e = of_same a b (due_for_once None refl a b d e)
@@ -326,6 +334,7 @@ module _ (laws : Laws) where
     due_for_alike (Some (direct r)) a b d e = of_same a b (due_for_once (Some (direct r)) refl a b d e)
     due_for_alike (Some (profile r)) a b d e = of_same a b (due_for_once (Some (profile r)) refl a b d e)
     due_for_alike (Some (annotate r)) a b d e = of_same a b (due_for_once (Some (annotate r)) refl a b d e)
+    due_for_alike (Some (show r)) a b d e = of_same a b (due_for_once (Some (show r)) refl a b d e)
 
     by_kind : (words : List (List ℕ)) (is : Bool) → is_live (request_of words) ≡ is → (a b : Result Texts Fault) → IsDue words sees a → IsDue words sees b → AreOne is a b
     by_kind words true e a b due other = due_for_alike (request_of words) a b due other

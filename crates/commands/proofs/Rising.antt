@@ -9,7 +9,7 @@ use Rattle.advice.specs.declared.verdict.Verdict.{Verdict}
 use Rattle.directives.specs.Acts.{applied}
 use Rattle.directives.specs.declared.fault.DirectiveFault.{DirectiveFault}
 use Rattle.mdl_ast.specs.declared.items.Item.{Item}
-use Rattle.command_words.specs.Requests.{Request, SessionRequest, ReplayRequest, PlanRequest, StressRequest, DirectRequest, run, live, replay, plan, asm, points, relog, stress, blocks, visi, advise, direct, profile, annotate, request_of}
+use Rattle.command_words.specs.Requests.{Request, SessionRequest, ReplayRequest, PlanRequest, StressRequest, DirectRequest, ShowRequest, run, live, replay, plan, asm, points, relog, stress, blocks, visi, advise, direct, profile, annotate, show, request_of}
 use Rattle.elf_form.specs.Meaning.{meaning_of}
 use Rattle.elf_form.specs.declared.fault.ElfFault.{ElfFault}
 use Rattle.elf_form.specs.declared.limits.TheConstants.{MAX_PROGRAM_LEN}
@@ -48,6 +48,9 @@ use Rattle.whole_run.specs.Replayed.{misfit_of}
 use Rattle.whole_run.specs.declared.misfit.Misfit.{Misfit}
 use Rattle.whole_run.specs.declared.misfit.Misfit.TheVariants as misfit
 use Rattle.commands.specs.Given.{inputs_with}
+use Rattle.report_reader.specs.Reading.{report_in}
+use Rattle.report_reader.specs.declared.whole_report.Report.{Report}
+use Rattle.commands.specs.Showing.{report_view_texts, IsShowDue}
 use Rattle.commands.specs.Advising.{advice_texts, IsAdviseDue, IsReportContent}
 use Rattle.commands.specs.Output.{output}
 use Rattle.commands.specs.Blocks.{AreCounted}
@@ -163,6 +166,10 @@ advice_spared : (r : Result (List Verdict) ReportFault) → Spares (advice_texts
 advice_spared (Ok verdicts) = tt
 advice_spared (Err (report_fault.BadReport place)) = tt
 
+view_spared : (q : ShowRequest) (r : Result Report ReportFault) → Spares (report_view_texts q r)
+view_spared q (Ok report) = tt
+view_spared q (Err (report_fault.BadReport place)) = tt
+
 directives_spared : (text : List ℕ) (name : List ℕ) → MeansDirectives text (Err (FileFault name)) → ⊥
 directives_spared text name (line, col, kind, wrong, e) = cc
 
@@ -252,6 +259,11 @@ module _ (name : List ℕ) (P : Type 0) (sees : FileReading) (at_file : (other :
       of_either P (IsReportContent sees other) (λ bytes texts. texts ≡ advice_texts (verdicts_of bytes)) (FileFault name) (at_content name P sees at_file REPORT_LIMIT (BadReport REPORT_LIMIT) other tt)
       (λ bytes e. absurd (spared (advice_texts (verdicts_of bytes)) name (advice_spared (verdicts_of bytes)) e))
 
+  at_view : (q : ShowRequest) → IsShowDue q sees (Err (FileFault name)) → P
+  at_view q =
+      of_either P (IsReportContent sees q.report) (λ bytes texts. texts ≡ report_view_texts q (report_in bytes)) (FileFault name) (at_content name P sees at_file REPORT_LIMIT (BadReport REPORT_LIMIT) q.report tt)
+      (λ bytes e. absurd (spared (report_view_texts q (report_in bytes)) name (view_spared q (report_in bytes)) e))
+
   at_directives : (other : List ℕ) → AreDirectives sees other (Err (FileFault name)) → P
   at_directives other =
       of_either P (IsDirectivesContent sees other) MeansDirectives (FileFault name)
@@ -293,6 +305,7 @@ module _ (name : List ℕ) (P : Type 0) (sees : FileReading) (at_file : (other :
   at_request (Some (stress r)) = λ e. absurd (stress_spared r name e)
   at_request (Some (visi r)) = at_session name P sees at_file r.session (IsInOrder r.order) (views_of r.views)
   at_request (Some (advise other)) = at_advice other
+  at_request (Some (show q)) = at_view q
   at_request (Some (direct r)) = at_direct r
   at_request (Some (blocks r)) =
       of_either P (IsProgramOfFile sees r.program) (AreCounted r) (FileFault name) (at_program name P sees at_file r.program) (λ image e. absurd (counted_spared r image name e))

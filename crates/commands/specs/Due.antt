@@ -1,6 +1,6 @@
 -- What is due for words and files.
 use Rattle.std.specs.Prelude.{◌≡◌, ℕ, Bool, true, false, List, Option, None, Some, Result, Ok, Err}
-use Rattle.command_words.specs.Requests.{Request, run, live, replay, plan, asm, points, relog, stress, blocks, visi, advise, direct, profile, annotate, request_of}
+use Rattle.command_words.specs.Requests.{Request, run, live, replay, plan, asm, points, relog, stress, blocks, visi, advise, direct, profile, annotate, show, request_of}
 use Rattle.refusals.specs.Refusals.{Step}
 use Rattle.refusals.specs.declared.fault.Fault.{Fault}
 use Rattle.refusals.specs.declared.fault.Fault.TheVariants.{Usage}
@@ -12,6 +12,7 @@ use Rattle.commands.specs.Plans.{IsPlanDue}
 use Rattle.commands.specs.Profiles.{IsProfileDue, IsAnnotateDue}
 use Rattle.commands.specs.Replays.{IsRelogDue, IsReplayDue}
 use Rattle.commands.specs.Runs.{IsRunDue, IsLiveDue, IsVisiDue, IsStressDue}
+use Rattle.commands.specs.Showing.{IsShowDue}
 use Rattle.commands.specs.FileReadings.{FileReading}
 use Rattle.commands.specs.declared.texts.Texts.{Texts}
 
@@ -32,6 +33,7 @@ IsDueFor (Some (advise name)) sees texts = IsAdviseDue name sees texts
 IsDueFor (Some (direct r)) sees texts = IsDirectDue r sees texts
 IsDueFor (Some (profile r)) sees texts = IsProfileDue r sees texts
 IsDueFor (Some (annotate r)) sees texts = IsAnnotateDue r sees texts
+IsDueFor (Some (show r)) sees texts = IsShowDue r sees texts
 
 -- What is due for words and what was seen of files: the texts that were asked for, or the first fault.
 abbrev pub IsDue : List (List ℕ) → FileReading → Step Texts

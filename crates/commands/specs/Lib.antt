@@ -11,6 +11,7 @@ pub mod Preparing
 pub mod Blocks
 pub mod Profiles
 pub mod Advising
+pub mod Showing
 pub mod Directing
 pub mod Listing
 pub mod Due

@@ -3,6 +3,7 @@ mod Served
 mod Complete
 mod Histories
 mod Times
+mod ReportViews
 mod Reports
 mod Untested
 mod Going

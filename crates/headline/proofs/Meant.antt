@@ -9,7 +9,7 @@ use Rattle.advice.specs.declared.verdict.Verdict.{Verdict}
 use Rattle.elf_write.specs.Made.{elf_of}
 use Rattle.code_points.specs.Points.{points_of}
 use Rattle.code_points.specs.Procedures.{procedures_of, skipped_of}
-use Rattle.command_words.specs.Requests.{Request, SessionRequest, RunRequest, LiveRequest, ReplayRequest, PlanRequest, StressRequest, BlocksRequest, VisiRequest, DirectRequest, ProfileRequest, AnnotateRequest, run, live, replay, plan, asm, points, relog, stress, blocks, visi, advise, direct, profile, annotate}
+use Rattle.command_words.specs.Requests.{Request, SessionRequest, RunRequest, LiveRequest, ReplayRequest, PlanRequest, StressRequest, BlocksRequest, VisiRequest, DirectRequest, ProfileRequest, AnnotateRequest, run, live, replay, plan, asm, points, relog, stress, blocks, visi, advise, direct, profile, annotate, show}
 use Rattle.directives.proofs.Accepting.{prefixes_after}
 use Rattle.directives.specs.Acts.{applied}
 use Rattle.directives.specs.Applying.{IsAccepted}
@@ -82,6 +82,8 @@ use Rattle.headline.proofs.Ranges.{IsRanged}
 use Rattle.headline.proofs.Reports.{IsRunnable, Laws, honest}
 use Rattle.headline.proofs.Runnable.{runnable}
 use Rattle.headline.proofs.Steps.{came, content_of, ok_is, opened}
+use Rattle.headline.proofs.ReportViews.{show_tells}
+use Rattle.report_reader.specs.Laws.{ReportIsSpelled}
 use Rattle.headline.proofs.StressTexts.{program_bytes}
 use Rattle.headline.proofs.Views.{fed_parts}
 
@@ -94,6 +96,7 @@ pub record AllLaws : Type 0 where
   pub can : FoundCanRun
   pub logs : IsReadAgain
   pub fit : WholeFit
+  pub spelled : ReportIsSpelled
 
 -- ---- a run
 
@@ -413,3 +416,4 @@ tells laws sees bytes texts (Some (blocks q)) range due = blocks_tell laws sees 
 tells laws sees bytes texts (Some (profile q)) range due = profile_tells laws sees bytes texts q due
 tells laws sees bytes texts (Some (annotate q)) range due = annotate_tells laws sees bytes texts q due
 tells laws sees bytes texts (Some (advise name)) range due = advise_tells laws sees bytes texts name due
+tells laws sees bytes texts (Some (show q)) range due = show_tells laws.spelled sees texts q due

@@ -9,10 +9,10 @@ use Rattle.pn_types.specs.declared.settings.Settings.{Settings}
 use Rattle.command_words.proofs.Ranges.{number_is_at_most}
 use Rattle.command_words.specs.Commands.{command_named, form_of}
 use Rattle.command_words.specs.Grammar.{Given, Text, given_in, taken_of}
-use Rattle.command_words.specs.Numbers.{NumberOption, bins_option, budget_option, harts_option, instruments_option, number_between, number_given, quantum_option, top_option, views_option, width_option, workers_option}
-use Rattle.command_words.specs.Requests.{Request, SessionRequest, run, live, replay, plan, asm, points, relog, stress, blocks, visi, advise, direct, profile, annotate, blocks_of, profile_source, shape_given, unit_given, order_of, place_in, request_from, request_of, session_of, settings_of, start_given}
+use Rattle.command_words.specs.Numbers.{NumberOption, bins_option, budget_option, harts_option, instruments_option, number_between, number_given, quantum_option, columns_option, top_option, views_option, width_option, workers_option}
+use Rattle.command_words.specs.Requests.{Request, SessionRequest, run, live, replay, plan, asm, points, relog, stress, blocks, visi, advise, direct, profile, annotate, show, bars_given, blocks_of, profile_source, shape_given, unit_given, order_of, place_in, request_from, request_of, session_of, settings_of, start_given}
 use Rattle.command_words.specs.declared.commands.CommandName.{CommandName}
-use Rattle.command_words.specs.declared.commands.CommandName.TheVariants.{Run, Live, Replay, Asm, Points, Plan, Stress, Relog, Blocks, Visi, Advise, Direct, Profile, Annotate}
+use Rattle.command_words.specs.declared.commands.CommandName.TheVariants.{Run, Live, Replay, Asm, Points, Plan, Stress, Relog, Blocks, Visi, Advise, Direct, Profile, Annotate, Show}
 
 -- ---- options
 
@@ -98,6 +98,7 @@ IsRanged (advise report) = Unit {0}
 IsRanged (direct r) = AreInRange r.session.settings
 IsRanged (profile r) = Unit {0}
 IsRanged (annotate r) = Unit {0}
+IsRanged (show r) = Unit {0}
 
 some_is : (q r : Request) → ◌≡◌ {A = Option Request} (Some q) (Some r) → q ≡ r
 some_is q r e = cc
@@ -141,6 +142,10 @@ from_ranged Profile given q e =
 from_ranged Annotate given q e =
     let s = found (profile_source given) _ q e in
     let m = mapped (unit_given given) _ q s.then in
+    subst IsRanged m.to tt
+from_ranged Show given q e =
+    let s = found (number_given given columns_option) _ q e in
+    let m = mapped (bars_given given) _ q s.then in
     subst IsRanged m.to tt
 
 pub ranged : (words : List Text) (q : Request) → request_of words ≡ Some q → IsRanged q

@@ -7,7 +7,7 @@ use Rattle.elf_write.specs.Made.{IsMeantAgain, elf_of}
 use Rattle.code_points.specs.Points.{points_of}
 use Rattle.code_points.specs.Procedures.{procedures_of, skipped_of}
 use Rattle.command_words.specs.Requests.{Request, SessionRequest, run, live, replay, visi, direct, stress}
-use Rattle.command_words.specs.Requests.{blocks, profile, annotate, points, plan, asm, relog, advise}
+use Rattle.command_words.specs.Requests.{blocks, profile, annotate, points, plan, asm, relog, advise, show}
 use Rattle.commands.specs.Blocks.{AreCounted, pace_of}
 use Rattle.commands.specs.Found.{AreFound}
 use Rattle.commands.specs.Given.{inputs_with}
@@ -15,6 +15,7 @@ use Rattle.commands.specs.Output.{output}
 use Rattle.commands.specs.Plans.{IsPlan}
 use Rattle.commands.specs.Profiles.{AreAnnotation, chosen, profile_texts, starts_of}
 use Rattle.commands.specs.Runnable.{IsConfOf, IsImageOf}
+use Rattle.commands.specs.Showing.{view_of}
 use Rattle.commands.specs.Runs.{IsByWorkers, IsInOrder, Order, stress_order, stress_session, stress_sight}
 use Rattle.commands.specs.FileReadings.{FileReading}
 use Rattle.commands.specs.declared.finding.Found.{Found}
@@ -32,6 +33,7 @@ use Rattle.report.specs.Text.{report_text}
 use Rattle.report.specs.Points.{points_text}
 use Rattle.report.specs.declared.parts.ReportParts.{ReportParts}
 use Rattle.report.specs.declared.parts.ShownPart.{ShownPart}
+use Rattle.report_reader.specs.declared.whole_report.Report.{Report}
 use Rattle.session.specs.Bins.{IsPartOf}
 use Rattle.session_spec.specs.Feed.{told_at}
 use Rattle.session_spec.specs.Inputs.{Inputs}
@@ -155,3 +157,6 @@ Tells (Some (relog name)) sees texts =
 Tells (Some (advise name)) sees texts =
     (report : List ℕ) × sees name (Ok report)
     × (verdicts : List Verdict) × (verdicts_of report ≡ Ok verdicts) × (texts ≡ output (advice verdicts))
+-- The file is the text of a report, and that report is shown.
+Tells (Some (show q)) sees texts =
+    (bytes : List ℕ) × sees q.report (Ok bytes) × (r : Report) × (report_text r.parts r.skipped ≡ bytes) × (texts ≡ output (view_of q r))

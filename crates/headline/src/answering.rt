@@ -10,7 +10,7 @@ ghost use Rattle.refusals.specs.Refusals.{Comes};
 use command_words::{Request, WordFault, read_request};
 use commands::{
     Texts, advise, annotate, asm, blocks, direct, live, plan, points, profile, relog, replay, run,
-    stress, visi,
+    show, stress, visi,
 };
 use outside::{Files, Gate};
 use refusals::{Fault, Refusal};
@@ -45,6 +45,7 @@ fn answer_request<F: Files, P: Progress>(
         Request::Direct(request) => direct(alloc, request, files, progress),
         Request::Profile(request) => profile(alloc, request, files),
         Request::Annotate(request) => annotate(alloc, request, files),
+        Request::Show(request) => show(alloc, request, files),
     }
 }
 

@@ -13,6 +13,7 @@ use mdl_check::one_answer;
 use mdl_parse::one_meaning;
 use outside::Files;
 use quanta_log::spelled_is_read;
+use report_reader::report_is_spelled;
 use resource_tree::one_reading;
 use session::parts_told;
 use session_spec::{bins_told, costs_stay, feed_told, runs_told, verdicts_told};
@@ -50,6 +51,7 @@ pub fn owed_is_honest<F: Files>()
     found_can_run();
     spelled_is_read();
     whole_quanta_fit();
+    report_is_spelled();
 }
 
 /// What a session gives at its end can be read: each text in it is a name, a focus or in one line, and what was judged true has ticks.

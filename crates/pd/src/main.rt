@@ -53,6 +53,7 @@ fn kind_of(words: &[String]) -> Kind {
     match words.first() {
         Some(word) if word.as_str() == "asm" => Kind::Elf,
         Some(word) if word.as_str() == "relog" => Kind::Log,
+        Some(word) if word.as_str() == "show" => Kind::View,
         _ => Kind::Report,
     }
 }
@@ -73,6 +74,7 @@ fn may_write_to(rt: &HostRuntime, name: &str, kind: Kind, force: bool) -> bool {
     let what = match kind {
         Kind::Log => "log",
         Kind::Report => "report",
+        Kind::View => "report as it is shown",
         Kind::Elf => "ELF file",
         Kind::Callgrind => "callgrind file",
     };

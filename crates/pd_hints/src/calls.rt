@@ -72,7 +72,7 @@ impl<'a> Call<'a> {
             Request::Blocks(blocks) => Some(Call::of_program(blocks.program)),
             Request::Profile(profile) => Some(Call::of_program(profile.source.counted.program)),
             Request::Annotate(annotate) => Some(Call::of_program(annotate.source.counted.program)),
-            Request::Relog(_) | Request::Stress(_) | Request::Advise(_) => None,
+            Request::Relog(_) | Request::Stress(_) | Request::Advise(_) | Request::Show(_) => None,
         }
     }
 }

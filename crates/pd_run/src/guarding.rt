@@ -13,6 +13,8 @@ pub enum Kind {
     Log,
     /// A report.
     Report,
+    /// A report as a person looks at it.
+    View,
     /// An ELF file.
     Elf,
     /// What callgrind's tools read.
@@ -27,6 +29,7 @@ impl Kind {
         match self {
             Kind::Log => b"PDYNLOG",
             Kind::Report => b"paradyn report ",
+            Kind::View => b"ticks ",
             Kind::Elf => b"\x7fELF",
             Kind::Callgrind => b"# callgrind format",
         }

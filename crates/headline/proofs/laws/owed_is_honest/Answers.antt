@@ -26,5 +26,6 @@ returns g c old new words texts owed =
       can = c.found_can_run.ensures;
       logs = c.spelled_is_read.ensures;
       fit = c.whole_quanta_fit.ensures;
+      spelled = c.report_is_spelled.ensures;
     })
     (reads (g.F.Files.holds old) (g.F.Files.faults old) (g.F.Files.faults new)) (λ name bytes h. h.1) texts (request_of words) (ranged words) owed.due
