@@ -3,7 +3,7 @@
 
     tools/compare.py --command NAME [--from SEED] [--count N] [--paradyn PATH] [--all]
 
-NAME is a command of the program: run, replay, relog, live, visi, direct, advise, blocks, profile, annotate, points, plan,
+NAME is a command of the program: run, replay, relog, live, visi, direct, advise, show, blocks, profile, annotate, points, plan,
 asm or stress.
 A case is made from its seed (`reference/cases`): files, and the words of a call. Compared are the status, the output,
 and the log where one is left. Under `live` which order the harts take isn't told: the log has to be one that such
@@ -32,8 +32,8 @@ from cases import limits  # noqa: E402
 from cases.calls import Case  # noqa: E402
 from paradyn import command_words, commands, quanta_log  # noqa: E402
 
-NAMES = ["run", "replay", "relog", "live", "visi", "direct", "advise", "blocks", "profile", "annotate", "points", "plan",
-         "asm", "stress", "limits"]
+NAMES = ["run", "replay", "relog", "live", "visi", "direct", "advise", "show", "blocks", "profile", "annotate", "points",
+         "plan", "asm", "stress", "limits"]
 SECONDS = 300
 
 

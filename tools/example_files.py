@@ -4,8 +4,8 @@
     tools/example_files.py [--check]
 
 A file of a case that has the name of a file of examples/, examples/words or examples/recipes is given the bytes that it has there.
-All such files of a case are taken from one of these folders, the one that has most of their names. With --check nothing is written:
-the files that a row has otherwise are told, and the status is 1 where there are some."""
+All such files of a case are taken from one of these folders, the one that has most of their names. A file that a shown command makes
+is given what the row of that command prints. With --check nothing is written: the files that a row has otherwise are told, and the status is 1 where there are some."""
 
 import os
 import pathlib
@@ -16,9 +16,13 @@ TOP = pathlib.Path(__file__).resolve().parent.parent
 sys.dont_write_bytecode = True
 sys.path.insert(0, str(TOP / "reference"))
 
+from row import row_of  # noqa: E402
 from rows import calls  # noqa: E402
 
 STDIN = TOP / "crates/test_top/stdin"
+STDOUT = TOP / "crates/test_top/stdout"
+# Files that a shown command makes, each with the words of the row that prints what it has.
+MADE = {b"words.report": b"run words.elf search.conf --harts 4 --width 2000"}
 FOLDERS = [TOP / "examples", TOP / "examples/words", TOP / "examples/recipes"]
 # The lines that give a file.
 FILE = re.compile(rb"^file (.*)\n(?:(?:\||hex |fill |cut |byte ).*\n)*", re.M)
@@ -43,11 +47,18 @@ def lines_of(name, content):
     return b"\n".join(lines) + b"\n"
 
 
+def made(words):
+    """What the row with these words prints."""
+    return row_of(words, STDOUT.read_bytes())[1]
+
+
 def given(case):
-    """The lines of a case, with its files from examples/."""
+    """The lines of a case, with its files from examples/, and those that shown commands make."""
     files = files_of(row[1] for row in FILE.finditer(case))
 
     def put(row):
+        if row[1] in MADE:
+            return lines_of(row[1], made(MADE[row[1]]))
         path = files.get(row[1])
         return lines_of(row[1], path.read_bytes()) if path and path.is_file() else row[0]
     return FILE.sub(put, case)
@@ -57,6 +68,7 @@ def others(stdin):
     """The files that a row has otherwise."""
     found = set()
     for _, _, case in calls.calls(stdin):
+        found |= {os.fsdecode(name) for name in MADE if name in case.files and case.files[name].content != made(MADE[name])}
         for name, path in files_of(case.files).items():
             if not path.is_file() or path.read_bytes() != case.files[name].content:
                 found.add(str(path.relative_to(TOP)))

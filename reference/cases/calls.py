@@ -15,11 +15,12 @@ VALUES = {
     "seed": [0, 1, 7, 99, 1000, 4294967295], "instruments": [1, 2, 4, 8, 64, 1024], "start": ["cold", "warm"],
     "workers": [1, 2, 3, 4, 5, 16], "views": [1, 2, 3, 8], "show": ["lines", "words", "words", "table"],
     "by": ["words", "words", "lines"],
-    "top": [1, 2, 3, 20, 1000000],
+    "top": [1, 2, 3, 20, 1000000], "columns": [20, 21, 40, 80, 1000], "bars": ["blocks", "ascii"],
 }
 SEARCH = b"include hypotheses;\nsearch { window %d; cost 1000; observed 1000000; }\n"
 # how often an option is given; those of which the default would be slow always are
-GIVEN = {"instruments": 0.2, "start": 0.25, "seed": 0.6, "workers": 0.7, "views": 0.8, "bins": 0.8, "quantum": 0.9, "show": 0.8, "top": 0.5, "by": 0.5}
+GIVEN = {"instruments": 0.2, "start": 0.25, "seed": 0.6, "workers": 0.7, "views": 0.8, "bins": 0.8, "quantum": 0.9, "show": 0.8, "top": 0.5, "by": 0.5,
+         "columns": 0.6, "bars": 0.5}
 STRAY_WORDS = ["--", "-", "--harts", "--log", "--log=", "--start=cold", "-h", "more", "--harts=2"]
 ALSO = ["0x10004", "0x10008,0x10010", "0x1000C", "0x10000,0x10000", "0x1", "0xffffffffffffffff", "0x0000000000000010014"]
 BAD_VALUES = ["0x", "0x10000,", "0x10000000000000000", "10004", "0", "-", "-1", "x", "", "00000000001", "4294967296", "10001", "100000001", "33", "hot", "1e3"]
@@ -169,6 +170,11 @@ class Case:
             result = self.reported()
         self.put("r", changed_report(self.draw, result.out))
         self.call(["r" if self.draw.random() < 0.98 else "absent"])
+
+    def show(self):
+        text = self.reported().out
+        self.put("r", text if self.draw.random() < 0.5 else changed_report(self.draw, text))
+        self.call(["r" if self.draw.random() < 0.98 else "absent"], ("columns", "bars"))
 
     def blocks(self):
         self.call([self.program_name()], ("harts", "seed", "quantum", "budget"))

@@ -17,13 +17,14 @@ COMMANDS = {
     "direct": (3, RUN),
     "profile": (1, ["harts", "seed", "quantum", "budget", "also", "show", "top", "callgrind"]),
     "annotate": (1, ["harts", "seed", "quantum", "budget", "also", "procedure", "by"]),
+    "show": (1, ["columns", "bars"]),
 }
 # options whose value is a name, and is taken as it is
 NAMES = ("log", "callgrind", "procedure")
 # least, most and default
 LIMITS = {"harts": (1, 32, 1), "workers": (1, 16, 2), "seed": (0, 4294967295, 0), "quantum": (1, 10000, 50),
           "budget": (1, 100000000, 1000000), "bins": (2, 1024, 64), "width": (1, 1000000, 1000),
-          "instruments": (1, 1024, 64), "views": (1, 8, 2), "top": (1, 1000000, 20)}
+          "instruments": (1, 1024, 64), "views": (1, 8, 2), "top": (1, 1000000, 20), "columns": (20, 1000, 80)}
 
 
 def number(text, low, high):
@@ -79,6 +80,9 @@ def value_of(name, given):
     if name == "by":
         unit = given.get(name, "words")
         return unit if unit in ("words", "lines") else None
+    if name == "bars":
+        style = given.get(name, "blocks")
+        return style if style in ("blocks", "ascii") else None
     if name == "also":
         return addresses(given[name]) if name in given else []
     low, high, default = LIMITS[name]

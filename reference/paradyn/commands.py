@@ -1,6 +1,6 @@
 """What each command prints, and the status with which it ends."""
 from . import advice, assembly, basic_blocks, command_words, configuration, directives, elf_reading, elf_writing
-from . import line_table, plans, points, profile, quanta_log, report, resources, shipped, stress, tokens
+from . import line_table, plans, points, profile, quanta_log, report, report_reading, resources, shipped, show, stress, tokens
 from .checking import CheckFault, check
 from .session import BadPick, Session
 from .turn_order import by_workers, seeded
@@ -261,6 +261,13 @@ class Call:
             return Result(0, advice.advise(advice.read_verdicts(self.read(w["positional"][0]))))
         except advice.BadReport as f:
             raise Refusal(13, b"paradyn: bad report at %d\n" % f.place) from None
+
+    def show(self, w):
+        try:
+            report = report_reading.read_report(self.read(w["positional"][0]))
+        except advice.BadReport as f:
+            raise Refusal(13, b"paradyn: bad report at %d\n" % f.place) from None
+        return Result(0, show.show(report, w["columns"], w["bars"]))
 
 
 def execute(words, read, watch=None):
