@@ -3,9 +3,9 @@
 
 use crate::starts::start_text;
 use command_words::{
-    AnnotateRequest, AnnotationUnit, BlocksRequest, DirectRequest, LiveRequest, PlanRequest,
-    ProfileRequest, ProfileShape, ProfileSource, ReplayRequest, Request, RunRequest, StressRequest,
-    VisiRequest, WordFault, addresses, log_name, read_request,
+    AnnotateRequest, AnnotationUnit, BarStyle, BlocksRequest, DirectRequest, LiveRequest,
+    PlanRequest, ProfileRequest, ProfileShape, ProfileSource, ReplayRequest, Request, RunRequest,
+    ShowRequest, StressRequest, VisiRequest, WordFault, addresses, log_name, read_request,
 };
 use pn_types::{NoMemory, Settings};
 use std::alloc::Global;
@@ -127,6 +127,17 @@ fn annotate_text(alloc: Global, annotate: &AnnotateRequest<'_>) -> Result<String
     }
 }
 
+/// What `show` is asked for.
+fn show_text(alloc: Global, show: &ShowRequest<'_>) -> Result<String, NoMemory> {
+    let report = show.report;
+    let columns = show.columns;
+    let bars = match show.bars {
+        BarStyle::Blocks => "blocks",
+        BarStyle::Ascii => "ascii",
+    };
+    format!(in alloc; "show [{report}] columns {columns} bars {bars}")
+}
+
 /// What `visi` is asked for.
 fn visi_text(alloc: Global, visi: &VisiRequest<'_>) -> Result<String, NoMemory> {
     let settings = settings_text(alloc, visi.session.settings)?;
@@ -165,6 +176,7 @@ fn request_text(alloc: Global, words: &[String]) -> Result<String, NoMemory> {
         Ok(Request::Blocks(blocks)) => blocks_text(alloc, "blocks", &blocks),
         Ok(Request::Profile(profile)) => profile_text(alloc, &profile),
         Ok(Request::Annotate(annotate)) => annotate_text(alloc, &annotate),
+        Ok(Request::Show(show)) => show_text(alloc, &show),
         Ok(Request::Visi(visi)) => visi_text(alloc, &visi),
         Ok(Request::Advise(report)) => format!(in alloc; "advise [{report}]"),
         Ok(Request::Direct(direct)) => direct_text(alloc, &direct),
