@@ -68,7 +68,7 @@ fn add_bar(out: &mut Vec<u8>, ascii: bool, most: u64, value: u64) -> Result<(), 
 }
 
 /// Returns a value, or 0 in place of a negative one.
-fn positive(value: u64) -> u64
+pub fn positive(value: u64) -> u64
     ensures { result ≡ positive value }
 {
     if is_negative(value) { 0 } else { value }

@@ -12,7 +12,11 @@ use report::NodePart;
 use std::alloc::Global;
 
 /// Returns a value for a hundred ticks, with one decimal.
-fn percent(alloc: Global, value: u64, ticks: u64) -> Result<Vec<u8>, NoMemory>
+///
+/// # Errors
+///
+/// `NoMemory` where memory runs out.
+pub fn percent(alloc: Global, value: u64, ticks: u64) -> Result<Vec<u8>, NoMemory>
     ensures { IfOk result (λ text. text.items ≡ percent value ticks) }
 {
     if ticks == 0 {
