@@ -10,7 +10,7 @@ use Rattle.command_words.specs.Commands.{form_of}
 use Rattle.command_words.specs.Grammar.{Text, each_once, is_among, taken_of}
 use Rattle.command_words.specs.Walks.{values_of}
 use Rattle.command_words.specs.declared.commands.CommandName.{CommandName}
-use Rattle.command_words.specs.declared.commands.CommandName.TheVariants.{Run, Live, Replay, Asm, Points, Plan, Stress, Relog, Blocks, Visi, Advise, Direct, Profile, Annotate, Show}
+use Rattle.command_words.specs.declared.commands.CommandName.TheVariants.{Run, Live, Replay, Asm, Points, Plan, Stress, Relog, Blocks, Visi, Advise, Direct, Profile, Annotate, Show, Diff, Ask}
 use Rattle.command_words.proofs.Agreeing.{Same, same_values}
 use Rattle.command_words.proofs.Fitting.{fits_with}
 use Rattle.command_words.proofs.Machine.{machine_takes}
@@ -48,6 +48,8 @@ checked Direct = record { once = refl; unlike = refl; few = lit≤ tt; free = re
 checked Profile = record { once = refl; unlike = refl; few = lit≤ tt; free = refl; places = (refl, refl, refl, refl); faults = λ words. refl; matches = λ words. refl }
 checked Annotate = record { once = refl; unlike = refl; few = lit≤ tt; free = refl; places = (refl, refl, refl, refl); faults = λ words. refl; matches = λ words. refl }
 checked Show = record { once = refl; unlike = refl; few = lit≤ tt; free = refl; places = (refl, refl, refl, refl); faults = λ words. refl; matches = λ words. refl }
+checked Diff = record { once = refl; unlike = refl; few = lit≤ tt; free = refl; places = (refl, refl, refl, (refl, refl, refl, refl)); faults = λ words. refl; matches = λ words. refl }
+checked Ask = record { once = refl; unlike = refl; few = lit≤ tt; free = refl; places = (refl, refl, refl, (refl, refl, refl, refl)); faults = λ words. refl; matches = λ words. refl }
 
 pub is_free_for : (name : CommandName) → is_simple_and_free (app_for name) ≡ true
 is_free_for name = (checked name).free

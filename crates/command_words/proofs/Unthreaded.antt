@@ -5,10 +5,10 @@ use Rattle.std.specs.Option.{option_and_then}
 use Rattle.std.specs.Str.{bytes_eq}
 use Rattle.command_words.specs.Commands.{commands, form_of}
 use Rattle.command_words.specs.Grammar.{Text, Given, given_in, taken_of}
-use Rattle.command_words.specs.Numbers.{number_between, number_given, harts_option, top_option, columns_option}
-use Rattle.command_words.specs.Requests.{Request, begins_threaded, IsUnthreaded, place_in, request_from, request_of, session_of, order_of, blocks_of, profile_source, shape_given, unit_given, bars_given}
+use Rattle.command_words.specs.Numbers.{number_between, number_given, harts_option, top_option, columns_option, instruments_option}
+use Rattle.command_words.specs.Requests.{Request, begins_threaded, IsUnthreaded, place_in, request_from, request_of, session_of, order_of, blocks_of, profile_source, shape_given, unit_given, format_given, each_given, interval_given}
 use Rattle.command_words.specs.declared.commands.CommandName.{CommandName}
-use Rattle.command_words.specs.declared.commands.CommandName.TheVariants.{Run, Live, Replay, Asm, Points, Plan, Stress, Relog, Blocks, Visi, Advise, Direct, Profile, Annotate, Show}
+use Rattle.command_words.specs.declared.commands.CommandName.TheVariants.{Run, Live, Replay, Asm, Points, Plan, Stress, Relog, Blocks, Visi, Advise, Direct, Profile, Annotate, Show, Diff, Ask}
 
 abbrev pub AskUnthreaded : Option Request → Type 0
 AskUnthreaded None = ⊤
@@ -45,7 +45,12 @@ module _ (given : Given) where
   annotate_begins_none = chained _ (profile_source given) (λ source. mapped _ (unit_given given) (λ by. tt))
 
   show_begins_none : AskUnthreaded (request_from Show given)
-  show_begins_none = chained _ (number_given given columns_option) (λ columns. mapped _ (bars_given given) (λ bars. tt))
+  show_begins_none = chained _ (number_given given columns_option) (λ columns. mapped _ (format_given given) (λ format. tt))
+
+  ask_begins_none : AskUnthreaded (request_from Ask given)
+  ask_begins_none =
+      chained _ (blocks_of given) (λ counted. chained _ (each_given given) (λ each. chained _ (interval_given given)
+      (λ interval. mapped _ (number_given given instruments_option) (λ limit. tt))))
 
   direct_begins_none : AskUnthreaded (request_from Direct given)
   direct_begins_none =
@@ -78,6 +83,8 @@ module _ (word : Text) (words : List Text) (other : bytes_eq (codes "live") word
   named Profile e = by Profile profile_begins_none
   named Annotate e = by Annotate annotate_begins_none
   named Show e = by Show show_begins_none
+  named Diff e = by Diff (λ given. tt)
+  named Ask e = by Ask ask_begins_none
 
   either : (name : CommandName) (rest : Option CommandName) (b : Bool) → bytes_eq (form_of name).word word ≡ b → AskUnthreaded (option_and_then asked_as rest)
       → AskUnthreaded (option_and_then asked_as (cond b (Some name) rest))

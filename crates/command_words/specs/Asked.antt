@@ -1,13 +1,14 @@
 -- What a request's value asks for, and what clap's matches give.
 use Rattle.std.specs.Prelude.{◌≡◌, List, [], Some, option_map}
+use Rattle.std.specs.List.{slice_split}
 use Rattle.std.specs.Option.{option_map_or}
 use Rattle.clap.specs.Words.{first_value, found_of}
 use Rattle.clap.specs.declared.parser.matches.ArgMatches.{ArgMatches}
-use Rattle.command_words.specs.Addresses.{addresses_of}
+use Rattle.command_words.specs.Addresses.{addresses_of, is_comma}
 use Rattle.command_words.specs.Grammar.{Text, Form, Given, NamedValues, given_in, taken_of}
 use Rattle.command_words.specs.Requests as request
 use Rattle.command_words.specs.declared.requests.Request.{Request}
-use Rattle.command_words.specs.declared.requests.Request.TheVariants.{Run, Live, Replay, Plan, Asm, Points, Relog, Stress, Blocks, Visi, Advise, Direct, Profile, Annotate, Show}
+use Rattle.command_words.specs.declared.requests.Request.TheVariants.{Run, Live, Replay, Plan, Asm, Points, Relog, Stress, Blocks, Visi, Advise, Direct, Profile, Annotate, Show, Diff, Ask}
 use Rattle.command_words.specs.declared.requests.SessionRequest.{SessionRequest}
 use Rattle.command_words.specs.declared.requests.RunRequest.{RunRequest}
 use Rattle.command_words.specs.declared.requests.LiveRequest.{LiveRequest}
@@ -19,6 +20,9 @@ use Rattle.command_words.specs.declared.requests.ProfileSource.{ProfileSource}
 use Rattle.command_words.specs.declared.requests.ProfileRequest.{ProfileRequest}
 use Rattle.command_words.specs.declared.requests.AnnotateRequest.{AnnotateRequest}
 use Rattle.command_words.specs.declared.requests.ShowRequest.{ShowRequest}
+use Rattle.command_words.specs.declared.requests.DiffRequest.{DiffRequest}
+use Rattle.command_words.specs.declared.requests.AskInterval.{AskInterval}
+use Rattle.command_words.specs.declared.requests.AskRequest.{AskRequest}
 use Rattle.command_words.specs.declared.requests.VisiRequest.{VisiRequest}
 use Rattle.command_words.specs.declared.requests.DirectRequest.{DirectRequest}
 
@@ -59,7 +63,23 @@ abbrev pub asked_annotate : AnnotateRequest → request.AnnotateRequest
 asked_annotate r = record { source = asked_source r.source; procedure = option_map (λ s. s.now) r.procedure; unit = r.unit }
 
 abbrev pub asked_show : ShowRequest → request.ShowRequest
-asked_show r = record { report = r.report.now; columns = r.columns; bars = r.bars }
+asked_show r = record { report = r.report.now; columns = r.columns; format = r.format }
+
+abbrev pub asked_diff : DiffRequest → request.DiffRequest
+asked_diff r = record { old = r.old.now; new = r.new.now }
+
+abbrev pub asked_interval : AskInterval → request.AskInterval
+asked_interval i = record { from = i.from; until = i.until }
+
+abbrev pub asked_ask : AskRequest → request.AskRequest
+asked_ask r = record {
+  counted = asked_blocks r.counted;
+  metrics = slice_split is_comma r.metrics.now;
+  each = r.each;
+  under = r.under.now;
+  interval = asked_interval r.interval;
+  limit = r.limit;
+}
 
 abbrev pub asked : Request → request.Request
 asked (Run r) = request.run (asked_run r)
@@ -77,6 +97,8 @@ asked (Direct r) = request.direct (asked_direct r)
 asked (Profile r) = request.profile (asked_profile r)
 asked (Annotate r) = request.annotate (asked_annotate r)
 asked (Show r) = request.show (asked_show r)
+asked (Diff r) = request.diff (asked_diff r)
+asked (Ask r) = request.ask (asked_ask r)
 
 -- the values that clap's matches hold
 abbrev pub given_by : ArgMatches → Given

@@ -3,10 +3,10 @@ use Rattle.std.specs.Prelude.{List, [], ◌∷◌, Option, codes, find}
 use Rattle.std.specs.Str.{bytes_eq}
 use Rattle.command_words.specs.Grammar.{Text, Form}
 use Rattle.command_words.specs.declared.commands.CommandName.{CommandName}
-use Rattle.command_words.specs.declared.commands.CommandName.TheVariants.{Run, Live, Replay, Asm, Points, Plan, Stress, Relog, Blocks, Visi, Advise, Direct, Profile, Annotate, Show}
+use Rattle.command_words.specs.declared.commands.CommandName.TheVariants.{Run, Live, Replay, Asm, Points, Plan, Stress, Relog, Blocks, Visi, Advise, Direct, Profile, Annotate, Show, Diff, Ask}
 
 abbrev pub commands : List CommandName
-commands = Run ∷ Live ∷ Replay ∷ Asm ∷ Points ∷ Plan ∷ Stress ∷ Relog ∷ Blocks ∷ Visi ∷ Advise ∷ Direct ∷ Profile ∷ Annotate ∷ Show ∷ []
+commands = Run ∷ Live ∷ Replay ∷ Asm ∷ Points ∷ Plan ∷ Stress ∷ Relog ∷ Blocks ∷ Visi ∷ Advise ∷ Direct ∷ Profile ∷ Annotate ∷ Show ∷ Diff ∷ Ask ∷ []
 
 abbrev pub form_of : CommandName → Form
 form_of Run = record {
@@ -59,7 +59,14 @@ form_of Annotate = record {
   places = codes "program" ∷ [];
   options = codes "harts" ∷ codes "seed" ∷ codes "quantum" ∷ codes "budget" ∷ codes "also" ∷ codes "procedure" ∷ codes "by" ∷ [];
 }
-form_of Show = record { word = codes "show"; places = codes "report" ∷ []; options = codes "columns" ∷ codes "bars" ∷ [] }
+form_of Show = record { word = codes "show"; places = codes "report" ∷ []; options = codes "columns" ∷ codes "format" ∷ [] }
+form_of Diff = record { word = codes "diff"; places = codes "old" ∷ codes "new" ∷ []; options = [] }
+form_of Ask = record {
+  word = codes "ask";
+  places = codes "program" ∷ codes "metrics" ∷ [];
+  options = codes "harts" ∷ codes "seed" ∷ codes "quantum" ∷ codes "budget" ∷ codes "instruments"
+      ∷ codes "each" ∷ codes "under" ∷ codes "from" ∷ codes "until" ∷ [];
+}
 
 -- the command whose own word this is
 abbrev pub command_named : Text → Option CommandName

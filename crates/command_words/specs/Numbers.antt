@@ -53,6 +53,10 @@ top_option = record { name = codes "top"; least = 1; most = 1000000; default = 2
 abbrev pub columns_option : NumberOption
 columns_option = record { name = codes "columns"; least = 20; most = 1000; default = 80 }
 
+-- the tick from which on something is asked for
+abbrev pub from_option : NumberOption
+from_option = record { name = codes "from"; least = 0; most = 2147483647; default = 0 }
+
 -- the number that an option gives, or its default where it isn't given
 abbrev pub number_given : Given → NumberOption → Option ℕ
 number_given given option = option_map_or (number_between option.least option.most) (given option.name) (Some option.default)

@@ -1,5 +1,6 @@
 -- What the words ask for.
-use Rattle.std.specs.Prelude.{◌≤◌, ◌<◌, ◌^◌, ◌||◌, ℕ, if◌then◌else◌, Bool, false, List, [], ◌∷◌, Option, Some, None, codes, option_map, unwrap_or}
+use Rattle.std.specs.Prelude.{◌≤◌, ◌<◌, ◌^◌, ◌+◌, ◌||◌, ℕ, if◌then◌else◌, Bool, false, List, [], ◌∷◌, Option, Some, None, codes, option_map, unwrap_or}
+use Rattle.std.specs.List.{slice_split}
 use Rattle.std.specs.Option.{option_and_then, option_map_or}
 use Rattle.std.specs.Str.{bytes_eq}
 use Rattle.pn_types.specs.Settings.{AreInRange}
@@ -8,18 +9,20 @@ use Rattle.pn_types.specs.declared.settings.Settings.{Settings}
 use Rattle.pn_types.specs.declared.settings.Start.{Start}
 use Rattle.pn_types.specs.declared.settings.Start.TheVariants.{Cold, Warm}
 use Rattle.command_words.specs.Grammar.{Text, Given, given_in, taken_of}
-use Rattle.command_words.specs.Addresses.{also_given}
+use Rattle.command_words.specs.Addresses.{also_given, is_comma}
 use Rattle.command_words.specs.Commands.{form_of, command_named}
-use Rattle.command_words.specs.Numbers.{number_between, number_given, harts_option, workers_option, seed_option, quantum_option, budget_option, bins_option, width_option, instruments_option, views_option, top_option, columns_option}
+use Rattle.command_words.specs.Numbers.{number_between, number_given, harts_option, workers_option, seed_option, quantum_option, budget_option, bins_option, width_option, instruments_option, views_option, top_option, columns_option, from_option}
 use Rattle.command_words.specs.declared.commands.CommandName.{CommandName}
-use Rattle.command_words.specs.declared.commands.CommandName.TheVariants.{Run, Live, Replay, Asm, Points, Plan, Stress, Relog, Blocks, Visi, Advise, Direct, Profile, Annotate, Show}
+use Rattle.command_words.specs.declared.commands.CommandName.TheVariants.{Run, Live, Replay, Asm, Points, Plan, Stress, Relog, Blocks, Visi, Advise, Direct, Profile, Annotate, Show, Diff, Ask}
 use Rattle.command_words.specs.declared.requests.AnnotationUnit.{AnnotationUnit}
 use Rattle.command_words.specs.declared.requests.AnnotationUnit.TheVariants as unit
-use Rattle.command_words.specs.declared.requests.BarStyle.{BarStyle}
-use Rattle.command_words.specs.declared.requests.BarStyle.TheVariants as style
+use Rattle.command_words.specs.declared.requests.NodeKind.{NodeKind}
+use Rattle.command_words.specs.declared.requests.NodeKind.TheVariants as kind
 use Rattle.command_words.specs.declared.requests.ProfileShape.{ProfileShape}
 use Rattle.command_words.specs.declared.requests.ProfileShape.TheVariants.{Lines, Words, Table}
 use Rattle.command_words.specs.declared.requests.TurnOrder.{TurnOrder}
+use Rattle.command_words.specs.declared.requests.ViewFormat.{ViewFormat}
+use Rattle.command_words.specs.declared.requests.ViewFormat.TheVariants as format
 
 -- ---- values
 
@@ -113,9 +116,30 @@ pub record AnnotateRequest : Type 0 where
 
 pub record ShowRequest : Type 0 where
   pub report : Text
-  -- how many columns there are
+  -- how many columns there are, in a terminal
   pub columns : ℕ
-  pub bars : BarStyle
+  pub format : ViewFormat
+
+pub record DiffRequest : Type 0 where
+  pub old : Text
+  pub new : Text
+
+-- The tick from which on something is asked for, and that at which it ends.
+pub record AskInterval : Type 0 where
+  pub from : ℕ
+  pub until : Option ℕ
+
+pub record AskRequest : Type 0 where
+  -- the program, and the run that tells which of its parts come first
+  pub counted : BlocksRequest
+  pub metrics : List Text
+  -- what is asked for: each node of this kind, or the focus alone
+  pub each : Option NodeKind
+  -- the focus below which these are
+  pub under : Text
+  pub interval : AskInterval
+  -- how many pairs are asked for, at most
+  pub limit : ℕ
 
 pub record VisiRequest : Type 0 where
   pub session : SessionRequest
@@ -145,6 +169,8 @@ pub data Request : Type 0 where
   profile : ProfileRequest → Request
   annotate : AnnotateRequest → Request
   show : ShowRequest → Request
+  diff : DiffRequest → Request
+  ask : AskRequest → Request
 
 -- ---- from values to requests
 
@@ -250,20 +276,69 @@ annotate_request given =
     (unit_given given))
     (profile_source given)
 
--- `blocks` or `ascii`
-abbrev pub bars_named : Text → Option BarStyle
-bars_named text = if bytes_eq text (codes "blocks") then Some style.Blocks else if bytes_eq text (codes "ascii") then Some style.Ascii else None
+-- `blocks`, `ascii`, `json`, `csv`, `svg` or `html`
+abbrev pub format_named : Text → Option ViewFormat
+format_named text =
+    if bytes_eq text (codes "blocks") then Some format.Blocks
+    else if bytes_eq text (codes "ascii") then Some format.Ascii
+    else if bytes_eq text (codes "json") then Some format.Json
+    else if bytes_eq text (codes "csv") then Some format.Csv
+    else if bytes_eq text (codes "svg") then Some format.Svg
+    else if bytes_eq text (codes "html") then Some format.Html
+    else None
 
--- the bars that are given, or `blocks` where none are
-abbrev pub bars_given : Given → Option BarStyle
-bars_given given = option_map_or bars_named (given (codes "bars")) (Some style.Blocks)
+-- the format that is given, or `blocks` where none is
+abbrev pub format_given : Given → Option ViewFormat
+format_given given = option_map_or format_named (given (codes "format")) (Some format.Blocks)
 
 abbrev pub show_request : Given → Option Request
 show_request given =
-    option_and_then (λ columns. option_map (λ bars.
-    show (record { report = place_in given (codes "report"); columns = columns; bars = bars }))
-    (bars_given given))
+    option_and_then (λ columns. option_map (λ format.
+    show (record { report = place_in given (codes "report"); columns = columns; format = format }))
+    (format_given given))
     (number_given given columns_option)
+
+abbrev pub diff_request : Given → Request
+diff_request given = diff (record { old = place_in given (codes "old"); new = place_in given (codes "new") })
+
+-- `procedure`, `module`, `lock` or `hart`
+abbrev pub kind_named : Text → Option NodeKind
+kind_named text =
+    if bytes_eq text (codes "procedure") then Some kind.Procedure
+    else if bytes_eq text (codes "module") then Some kind.Module
+    else if bytes_eq text (codes "lock") then Some kind.Lock
+    else if bytes_eq text (codes "hart") then Some kind.Hart
+    else None
+
+-- the kind that is given, or none where none is
+abbrev pub each_given : Given → Option (Option NodeKind)
+each_given given = option_map_or (λ text. option_map Some (kind_named text)) (given (codes "each")) (Some None)
+
+-- the tick that is given, which has to be above another, or none where none is
+abbrev pub until_given : ℕ → Given → Option (Option ℕ)
+until_given from given =
+    option_map_or (λ text. option_map Some (number_between (from + 1) 2147483647 text)) (given (codes "until")) (Some None)
+
+abbrev pub interval_given : Given → Option AskInterval
+interval_given given =
+    option_and_then (λ from. option_map (λ until. record { from = from; until = until }) (until_given from given))
+    (number_given given from_option)
+
+abbrev pub ask_request : Given → Option Request
+ask_request given =
+    option_and_then (λ counted. option_and_then (λ each. option_and_then (λ interval. option_map (λ limit.
+    ask (record {
+      counted = counted;
+      metrics = slice_split is_comma (place_in given (codes "metrics"));
+      each = each;
+      under = unwrap_or (given (codes "under")) (codes "/Code");
+      interval = interval;
+      limit = limit;
+    }))
+    (number_given given instruments_option))
+    (interval_given given))
+    (each_given given))
+    (blocks_of given)
 
 abbrev pub visi_request : Given → Option Request
 visi_request given =
@@ -296,6 +371,8 @@ request_from Direct given = direct_request given
 request_from Profile given = profile_request given
 request_from Annotate given = annotate_request given
 request_from Show given = show_request given
+request_from Diff given = Some (diff_request given)
+request_from Ask given = ask_request given
 
 -- What the words ask for; none where they are no command.
 abbrev pub request_of : List Text → Option Request
@@ -328,6 +405,8 @@ IsUnthreaded (direct r) = Unit {0}
 IsUnthreaded (profile r) = Unit {0}
 IsUnthreaded (annotate r) = Unit {0}
 IsUnthreaded (show r) = Unit {0}
+IsUnthreaded (diff r) = Unit {0}
+IsUnthreaded (ask r) = Unit {0}
 
 -- ---- ranges
 
@@ -357,3 +436,5 @@ HasRanges (direct r) = AreInRange r.session.settings × IsOrderInRange r.order
 HasRanges (profile r) = IsBlocksInRange r.source.counted × ((1 ≤ r.top) × (r.top ≤ 1000000))
 HasRanges (annotate r) = IsBlocksInRange r.source.counted
 HasRanges (show r) = (20 ≤ r.columns) × (r.columns ≤ 1000)
+HasRanges (diff r) = Unit {0}
+HasRanges (ask r) = IsBlocksInRange r.counted

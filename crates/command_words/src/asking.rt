@@ -9,6 +9,7 @@ ghost use Rattle.command_words.specs.Walked.{option_seen};
 ghost use Rattle.pn_types.specs.Settings.{AreInRange};
 
 use crate::address_list::are_addresses;
+use crate::ask_asking::ask_request;
 use crate::commands::CommandName;
 use crate::given::Given;
 use crate::matching::{WordFault, matches};
@@ -16,8 +17,8 @@ use crate::numbers::{
     BINS, BUDGET, HARTS, INSTRUMENTS, NumberOption, QUANTUM, SEED, TOP, VIEWS, WIDTH, WORKERS,
 };
 use crate::requests::{
-    AnnotateRequest, AnnotationUnit, BlocksRequest, DirectRequest, LiveRequest, PlanRequest,
-    ProfileRequest, ProfileShape, ProfileSource, ReplayRequest, Request, RunRequest,
+    AnnotateRequest, AnnotationUnit, BlocksRequest, DiffRequest, DirectRequest, LiveRequest,
+    PlanRequest, ProfileRequest, ProfileShape, ProfileSource, ReplayRequest, Request, RunRequest,
     SessionRequest, StressRequest, TurnOrder, VisiRequest,
 };
 use crate::show_asking::show_request;
@@ -34,7 +35,7 @@ pub(crate) fn place<'a, G: Given<'a>>(given: &G, name: &str) -> &'a str
 
 /// Reads a number of 1 to 10 digits in a range.
 #[tactic(auto, using(crate::proofs::Ranges::number_is_at_most))]
-fn number_between(text: &str, least: u64, most: u64) -> Option<u64>
+pub(crate) fn number_between(text: &str, least: u64, most: u64) -> Option<u64>
     ensures number { result ≡ number_between least most text.now }
     ensures range { IfSome result (λ n. (least ≤ n) × (n ≤ most)) }
 {
@@ -174,7 +175,7 @@ fn stress_request<'a, G: Given<'a>>(given: &G) -> Option<Request<'a>>
     }))
 }
 
-fn blocks<'a, G: Given<'a>>(given: &G) -> Option<BlocksRequest<'a>>
+pub(crate) fn blocks<'a, G: Given<'a>>(given: &G) -> Option<BlocksRequest<'a>>
     ensures request { option_map asked_blocks result ≡ blocks_of (G.given given.now) }
     ensures ranges { IfSome result (λ request. IsBlocksInRange (asked_blocks request)) }
 {
@@ -335,6 +336,11 @@ pub fn request_from<'a, G: Given<'a>>(name: CommandName, given: &G) -> Option<Re
         CommandName::Profile => profile_request(given),
         CommandName::Annotate => annotate_request(given),
         CommandName::Show => show_request(given),
+        CommandName::Diff => Some(Request::Diff(DiffRequest {
+            old: place(given, "old"),
+            new: place(given, "new"),
+        })),
+        CommandName::Ask => ask_request(given),
     }
 }
 

@@ -25,10 +25,12 @@ pub enum CommandName {
     Profile,
     Annotate,
     Show,
+    Diff,
+    Ask,
 }
 
 /// All commands.
-const COMMANDS: [CommandName; 15] = [
+const COMMANDS: [CommandName; 17] = [
     CommandName::Run,
     CommandName::Live,
     CommandName::Replay,
@@ -44,6 +46,8 @@ const COMMANDS: [CommandName; 15] = [
     CommandName::Profile,
     CommandName::Annotate,
     CommandName::Show,
+    CommandName::Diff,
+    CommandName::Ask,
 ];
 
 const RUN_OPTIONS: [&str; 9] = [
@@ -116,8 +120,20 @@ const ANNOTATE_OPTIONS: [&str; 7] = [
     "by",
 ];
 
+const ASK_OPTIONS: [&str; 9] = [
+    "harts",
+    "seed",
+    "quantum",
+    "budget",
+    "instruments",
+    "each",
+    "under",
+    "from",
+    "until",
+];
+
 /// What each command takes, in the order of the commands.
-const FORMS: [Form; 15] = [
+const FORMS: [Form; 17] = [
     Form {
         word: "run",
         places: &["program", "conf"],
@@ -191,7 +207,17 @@ const FORMS: [Form; 15] = [
     Form {
         word: "show",
         places: &["report"],
-        options: &["columns", "bars"],
+        options: &["columns", "format"],
+    },
+    Form {
+        word: "diff",
+        places: &["old", "new"],
+        options: &[],
+    },
+    Form {
+        word: "ask",
+        places: &["program", "metrics"],
+        options: &ASK_OPTIONS,
     },
 ];
 

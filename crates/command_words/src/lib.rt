@@ -2,6 +2,7 @@
 #![tactic(auto)]
 
 mod address_list;
+mod ask_asking;
 mod asking;
 mod builders;
 mod commands;
@@ -24,7 +25,8 @@ pub use logging::log_name;
 pub use matching::WordFault;
 pub use numbers::MAX_VIEWS;
 pub use requests::{
-    AnnotateRequest, AnnotationUnit, BarStyle, BlocksRequest, DirectRequest, LiveRequest,
-    PlanRequest, ProfileRequest, ProfileShape, ProfileSource, ReplayRequest, Request, RunRequest,
-    SessionRequest, ShowRequest, StressRequest, TurnOrder, VisiRequest,
+    AnnotateRequest, AnnotationUnit, AskInterval, AskRequest, BlocksRequest, DiffRequest,
+    DirectRequest, LiveRequest, NodeKind, PlanRequest, ProfileRequest, ProfileShape, ProfileSource,
+    ReplayRequest, Request, RunRequest, SessionRequest, ShowRequest, StressRequest, TurnOrder,
+    ViewFormat, VisiRequest,
 };

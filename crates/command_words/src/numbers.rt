@@ -100,6 +100,14 @@ pub const COLUMNS: NumberOption<'static> = NumberOption {
     default: 80,
 };
 
+/// The tick from which on something is asked for.
+pub const FROM: NumberOption<'static> = NumberOption {
+    name: "from",
+    least: 0,
+    most: 2_147_483_647,
+    default: 0,
+};
+
 /// The instruments that are allowed at once.
 pub const INSTRUMENTS: NumberOption<'static> = NumberOption {
     name: "instruments",

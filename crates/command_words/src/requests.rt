@@ -139,13 +139,21 @@ pub struct AnnotateRequest<'a> {
     pub unit: AnnotationUnit,
 }
 
-/// What the bars of histograms are made of.
+/// How a report is shown.
 #[derive(Clone, Copy, PartialEq, Eq, Drop)]
-pub enum BarStyle {
-    /// Unicode's blocks, by eighths.
+pub enum ViewFormat {
+    /// In a terminal, with bars of Unicode's blocks, by eighths.
     Blocks,
-    /// ASCII signs.
+    /// In a terminal, with bars of ASCII signs.
     Ascii,
+    /// As JSON.
+    Json,
+    /// As a table of comma-separated values.
+    Csv,
+    /// As a picture in SVG.
+    Svg,
+    /// As a page in HTML.
+    Html,
 }
 
 /// What `show` is asked for.
@@ -153,9 +161,56 @@ pub enum BarStyle {
 pub struct ShowRequest<'a> {
     /// The name of the report's file.
     pub report: &'a str,
-    /// How many columns there are, from 20 to 1,000.
+    /// How many columns there are in a terminal, from 20 to 1,000.
     pub columns: u32,
-    pub bars: BarStyle,
+    pub format: ViewFormat,
+}
+
+/// What `diff` is asked for.
+#[derive(Clone, Copy, Drop)]
+pub struct DiffRequest<'a> {
+    /// The name of the file of the report before.
+    pub old: &'a str,
+    /// The name of the file of the report after.
+    pub new: &'a str,
+}
+
+/// Kinds of nodes below a focus.
+#[derive(Clone, Copy, PartialEq, Eq, Drop)]
+pub enum NodeKind {
+    /// Procedures.
+    Procedure,
+    /// Modules.
+    Module,
+    /// Data objects, as locks.
+    Lock,
+    /// Harts.
+    Hart,
+}
+
+/// When something is asked for.
+#[derive(Clone, Copy, Drop)]
+pub struct AskInterval {
+    /// The tick from which on, below 2^31.
+    pub from: u32,
+    /// The tick at which it ends, above `from` and below 2^31, where it ends before the run does.
+    pub until: Option<u32>,
+}
+
+/// What `ask` is asked for.
+#[derive(Clone, Copy, Drop)]
+pub struct AskRequest<'a> {
+    /// The program, and the run that tells which of its parts come first.
+    pub counted: BlocksRequest<'a>,
+    /// The names of metrics, parted by commas.
+    pub metrics: &'a str,
+    /// What is asked for: each node of this kind, or the focus alone where none is given.
+    pub each: Option<NodeKind>,
+    /// The text of the focus below which these are.
+    pub under: &'a str,
+    pub interval: AskInterval,
+    /// How many pairs are asked for, at most, from 1 to [`pn_types::MAX_INSTRUMENTS`].
+    pub limit: u32,
 }
 
 /// What `visi` is asked for.
@@ -209,4 +264,8 @@ pub enum Request<'a> {
     Annotate(AnnotateRequest<'a>),
     /// To show a report to a person.
     Show(ShowRequest<'a>),
+    /// To tell what differs between two reports.
+    Diff(DiffRequest<'a>),
+    /// To write a configuration that asks for metrics.
+    Ask(AskRequest<'a>),
 }

@@ -2,31 +2,35 @@
 
 ghost use Rattle.std.specs.Prelude.{◌≡◌, IfSome, option_map};
 ghost use Rattle.command_words.specs.Asked.{asked};
-ghost use Rattle.command_words.specs.Requests.{bars_given, bars_named, show_request, HasRanges};
+ghost use Rattle.command_words.specs.Requests.{format_given, format_named, show_request, HasRanges};
 
 use crate::asking::{number_given, place};
 use crate::given::Given;
 use crate::numbers::COLUMNS;
-use crate::requests::{BarStyle, Request, ShowRequest};
+use crate::requests::{Request, ShowRequest, ViewFormat};
 
-/// Returns the bars of this name.
-fn bars_named(text: &str) -> Option<BarStyle>
-    ensures { result ≡ bars_named text.now }
+/// Returns the format of this name.
+fn format_named(text: &str) -> Option<ViewFormat>
+    ensures { result ≡ format_named text.now }
 {
     match text {
-        "blocks" => Some(BarStyle::Blocks),
-        "ascii" => Some(BarStyle::Ascii),
+        "blocks" => Some(ViewFormat::Blocks),
+        "ascii" => Some(ViewFormat::Ascii),
+        "json" => Some(ViewFormat::Json),
+        "csv" => Some(ViewFormat::Csv),
+        "svg" => Some(ViewFormat::Svg),
+        "html" => Some(ViewFormat::Html),
         _ => None,
     }
 }
 
-/// Returns the bars that are given, or blocks where none are.
-fn bars_given<'a, G: Given<'a>>(given: &G) -> Option<BarStyle>
-    ensures { result ≡ bars_given (G.given given.now) }
+/// Returns the format that is given, or that of a terminal with blocks where none is.
+fn format_given<'a, G: Given<'a>>(given: &G) -> Option<ViewFormat>
+    ensures { result ≡ format_given (G.given given.now) }
 {
-    match given.value("bars") {
-        Some(text) => bars_named(text),
-        None => Some(BarStyle::Blocks),
+    match given.value("format") {
+        Some(text) => format_named(text),
+        None => Some(ViewFormat::Blocks),
     }
 }
 
@@ -36,10 +40,10 @@ pub(crate) fn show_request<'a, G: Given<'a>>(given: &G) -> Option<Request<'a>>
     ensures ranges { IfSome result (λ request. HasRanges (asked request)) }
 {
     let columns = number_given(given, COLUMNS)?;
-    let bars = bars_given(given)?;
+    let format = format_given(given)?;
     Some(Request::Show(ShowRequest {
         report: place(given, "report"),
         columns: columns as u32,
-        bars,
+        format,
     }))
 }

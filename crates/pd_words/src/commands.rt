@@ -2,7 +2,7 @@
 
 use crate::rows::{CommandRow, Server};
 
-static COMMANDS: [CommandRow; 18] = [
+static COMMANDS: [CommandRow; 20] = [
     CommandRow {
         word: "run",
         server: Server::Paradyn,
@@ -82,11 +82,43 @@ static COMMANDS: [CommandRow; 18] = [
         word: "show",
         server: Server::Paradyn,
         words: &[
-            "REPORT", "columns", "ascii", "bars", "output", "force", "quiet",
+            "REPORT", "columns", "ascii", "json", "csv", "svg", "html", "format", "output",
+            "force", "quiet",
         ],
         optional: &[],
         summary: "A report as a person looks at it: bars, and the search as a tree",
         example: "Example: pd show words.report",
+    },
+    CommandRow {
+        word: "diff",
+        server: Server::Paradyn,
+        words: &["OLD", "NEW", "output", "force", "quiet"],
+        optional: &[],
+        summary: "What differs between two reports",
+        example: "Example: pd diff before.report after.report",
+    },
+    CommandRow {
+        word: "ask",
+        server: Server::Paradyn,
+        words: &[
+            "PROGRAM",
+            "METRICS",
+            "each",
+            "under",
+            "from",
+            "until",
+            "instruments",
+            "harts",
+            "seed",
+            "quantum",
+            "budget",
+            "output",
+            "force",
+            "quiet",
+        ],
+        optional: &[],
+        summary: "A configuration that asks for metrics, the hottest procedures first",
+        example: "Example: pd ask words.elf cpu calls_made --each procedure -n 4 -o words.conf",
     },
     CommandRow {
         word: "live",

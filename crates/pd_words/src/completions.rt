@@ -96,10 +96,9 @@ fn add_choices(script: &mut String, word: &WordRow) -> Result<(), NoMemory> {
 
 fn add_word(script: &mut String, word: &WordRow) -> Result<(), NoMemory> {
     match word.kind {
-        Kind::Place | Kind::NamedPlace(_) => add_choices(script, word),
-        Kind::ServedOption | Kind::OwnOption | Kind::Choice(_, _) => add_forms(
-            script, " ", word, " ",
-        ),
+        Kind::Place | Kind::Places | Kind::NamedPlace(_) => add_choices(script, word),
+        Kind::ServedOption | Kind::OwnOption | Kind::Choice(_, _) | Kind::FileChoice(_, _) =>
+            add_forms(script, " ", word, " "),
     }
 }
 

@@ -1,7 +1,7 @@
 //! The parser of the words of `pd`, which is made of the tables.
 
 use crate::commands::all_commands;
-use crate::rows::{CommandRow, Values, WordRow};
+use crate::rows::{CommandRow, Kind, Values, WordRow};
 use crate::words::all_words;
 use clap::builder::ValueParser;
 use clap::{Arg, ArgAction, Command};
@@ -62,6 +62,9 @@ fn arg_of<'a>(alloc: Global, command: &CommandRow, row: &WordRow) -> Arg<'a> {
         .action(action_of(row.values))
         .value_parser(check_of(row.values))
         .required(command.needs(row));
+    if matches!(row.kind, Kind::Places) {
+        arg = arg.num_args(1..);
+    }
     if row.kind.is_place() {
         return arg;
     }

@@ -5,6 +5,8 @@
 pub enum Kind {
     /// It is positional.
     Place,
+    /// It is positional, one word or more, which for `paradyn` are one with commas between.
+    Places,
     /// It is positional, and for `paradyn` an option of this name.
     NamedPlace(&'static str),
     /// It is an option that `paradyn` has too.
@@ -13,6 +15,8 @@ pub enum Kind {
     OwnOption,
     /// It is an option of `pd` alone, and for `paradyn` this value of the option of this name.
     Choice(&'static str, &'static str),
+    /// It is the same, and its own value is the file that takes what is printed.
+    FileChoice(&'static str, &'static str),
 }
 
 /// What a positional word, or the value of an option, can be.
@@ -80,7 +84,7 @@ pub struct CommandRow {
 impl Kind {
     /// Returns whether a word is positional.
     pub fn is_place(self) -> bool {
-        matches!(self, Kind::Place | Kind::NamedPlace(_))
+        matches!(self, Kind::Place | Kind::Places | Kind::NamedPlace(_))
     }
 }
 

@@ -59,8 +59,10 @@ fn add_given(
             let value = given.get_str(row.name).unwrap_or("");
             add_option(alloc, words, name, value)
         }
-        Kind::Choice(name, value) => add_option(alloc, words, name, value),
-        Kind::Place | Kind::OwnOption => Ok(()),
+        Kind::Choice(name, value) | Kind::FileChoice(name, value) => {
+            add_option(alloc, words, name, value)
+        }
+        Kind::Place | Kind::Places | Kind::OwnOption => Ok(()),
     }
 }
 
@@ -78,6 +80,40 @@ fn add_options(
     Ok(())
 }
 
+/// Adds words as one, with commas between.
+fn add_joined<'t>(
+    alloc: Global,
+    words: &mut Vec<String>,
+    given: &[&'t str],
+) -> Result<(), NoMemory> {
+    let mut word = String::new(alloc);
+    for (place, text) in given.iter().enumerate() {
+        add(&mut word, &[if place == 0 { "" } else { "," }, *text])?;
+    }
+    words.push(word)?;
+    Ok(())
+}
+
+/// Adds a positional word that was given.
+fn add_place(
+    alloc: Global,
+    words: &mut Vec<String>,
+    given: &ArgMatches<'_>,
+    row: &WordRow,
+) -> Result<(), NoMemory> {
+    match row.kind {
+        Kind::Place => match given.get_str(row.name) {
+            Some(word) => add_word(alloc, words, word),
+            None => Ok(()),
+        },
+        Kind::Places => match given.get_strs(row.name) {
+            Some(given) => add_joined(alloc, words, given),
+            None => Ok(()),
+        },
+        _ => Ok(()),
+    }
+}
+
 /// Adds the positional words, in their order.
 fn add_places(
     alloc: Global,
@@ -85,11 +121,7 @@ fn add_places(
     given: &ArgMatches<'_>,
 ) -> Result<(), NoMemory> {
     for row in all_words() {
-        if matches!(row.kind, Kind::Place)
-            && let Some(word) = given.get_str(row.name)
-        {
-            add_word(alloc, words, word)?;
-        }
+        add_place(alloc, words, given, row)?;
     }
     Ok(())
 }

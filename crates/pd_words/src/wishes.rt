@@ -58,7 +58,12 @@ pub enum Wish {
 /// What is said where a number or an address isn't written as `paradyn` writes them, or two shapes are asked for.
 const BAD_VALUE: &str = "\
 error: a number is 1 to 10 decimal digits with no sign before them; an address is 0x and hexadecimal digits, with a comma before the \
-next; one of --table, --words and --show is enough, as one of --ascii and --bars\n\nFor more information, try '--help'.\n";
+next; one of --table, --words and --show is enough, as one of --ascii, --json, --csv, --svg, --html and --format; --until is above \
+--from\n\nFor more information, try '--help'.\n";
+
+/// What is said where more than one file is to take what is printed.
+const TWO_FILES: &str =
+    "error: one of --output, --svg and --html is enough\n\nFor more information, try '--help'.\n";
 
 /// What is said where there is no command.
 const NO_COMMAND: &str = "error: there is no command\n\nFor more information, try '--help'.\n";
@@ -92,6 +97,17 @@ fn told(alloc: Global, error: &Error) -> Result<Wish, NoMemory>
     }
 }
 
+/// Returns the names of the files that are to take what is printed.
+fn outputs<'a>(alloc: Global, given: &ArgMatches<'a>) -> Result<Vec<&'a str>, NoMemory> {
+    let mut names = Vec::new(alloc);
+    for option in ["output", "svg", "html"] {
+        if let Some(name) = given.get_str(option) {
+            names.push(name)?;
+        }
+    }
+    Ok(names)
+}
+
 /// Returns the wish that serves what was given to a command.
 fn serving_wish(
     alloc: Global,
@@ -107,7 +123,11 @@ fn serving_wish(
         Err(WordFault::NoMemory) => return Err(AllocError),
         Err(WordFault::Usage) => return wrong(alloc, BAD_VALUE),
     }
-    let output = text_copied(alloc, given.get_str("output"))?;
+    let outputs = outputs(alloc, given)?;
+    if outputs.len() > 1 {
+        return wrong(alloc, TWO_FILES);
+    }
+    let output = text_copied(alloc, outputs.first().copied())?;
     Ok(Wish::Serve(Serving {
         words: for_screen(alloc, &words, is_screen && output.is_none())?,
         output,

@@ -16,7 +16,9 @@ const SHAPES: [&str; 3] = ["lines", "words", "table"];
 
 const UNITS: [&str; 2] = ["words", "lines"];
 
-const STYLES: [&str; 2] = ["blocks", "ascii"];
+const FORMATS: [&str; 6] = ["blocks", "ascii", "json", "csv", "svg", "html"];
+
+const KINDS: [&str; 4] = ["procedure", "module", "lock", "hart"];
 
 /// What most positional words have in common.
 const PLACE: WordRow = WordRow {
@@ -43,7 +45,7 @@ const FLAG: WordRow = WordRow {
     ..PLACE
 };
 
-static WORDS: [WordRow; 37] = [
+static WORDS: [WordRow; 48] = [
     WordRow {
         name: "PROGRAM",
         what: "The program, an ELF file or an assembly text",
@@ -90,7 +92,24 @@ static WORDS: [WordRow; 37] = [
     },
     WordRow {
         name: "REPORT",
-        what: "A report with a search in it",
+        what: "The report of a run",
+        ..PLACE
+    },
+    WordRow {
+        name: "OLD",
+        what: "The report before",
+        ..PLACE
+    },
+    WordRow {
+        name: "NEW",
+        what: "The report after",
+        ..PLACE
+    },
+    WordRow {
+        kind: Kind::Places,
+        name: "METRICS",
+        values: Values::Text,
+        what: "The names of shipped metrics, one or more",
         ..PLACE
     },
     WordRow {
@@ -238,16 +257,72 @@ static WORDS: [WordRow; 37] = [
         ..OPTION
     },
     WordRow {
-        kind: Kind::Choice("bars", "ascii"),
+        kind: Kind::Choice("format", "ascii"),
         name: "ascii",
         what: "Shows bars of ASCII signs",
         ..FLAG
     },
     WordRow {
-        name: "bars",
-        value: "STYLE",
-        values: Values::Words(&STYLES),
-        what: "What bars are made of: blocks or ascii",
+        kind: Kind::Choice("format", "json"),
+        name: "json",
+        what: "Prints all of the report as JSON",
+        ..FLAG
+    },
+    WordRow {
+        kind: Kind::Choice("format", "csv"),
+        name: "csv",
+        what: "Prints all of the report as comma-separated values",
+        ..FLAG
+    },
+    WordRow {
+        kind: Kind::FileChoice("format", "svg"),
+        name: "svg",
+        value: "FILE",
+        values: Values::File,
+        what: "Writes a picture to FILE: time lines, and the search as a tree",
+        ..OPTION
+    },
+    WordRow {
+        kind: Kind::FileChoice("format", "html"),
+        name: "html",
+        value: "FILE",
+        values: Values::File,
+        what: "Writes a page to FILE: time lines, and the search as a tree",
+        ..OPTION
+    },
+    WordRow {
+        name: "format",
+        value: "FORMAT",
+        values: Values::Words(&FORMATS),
+        what: "How it is shown: blocks, ascii, json, csv, svg or html",
+        ..OPTION
+    },
+    WordRow {
+        name: "each",
+        value: "KIND",
+        values: Values::Words(&KINDS),
+        what: "Asks for each procedure, module, lock or hart",
+        ..OPTION
+    },
+    WordRow {
+        name: "under",
+        value: "FOCUS",
+        values: Values::Text,
+        default: Some("/Code"),
+        what: "Asks for what is below FOCUS, as /Code/words.c,/Machine/hart0",
+        ..OPTION
+    },
+    WordRow {
+        name: "from",
+        values: Values::Number(0, 2_147_483_647),
+        default: Some("0"),
+        what: "The tick from which on it is asked for, 0 to 2147483647",
+        ..OPTION
+    },
+    WordRow {
+        name: "until",
+        values: Values::Number(1, 2_147_483_647),
+        what: "The tick at which it ends, above that of --from and up to 2147483647",
         ..OPTION
     },
     WordRow {
@@ -275,7 +350,7 @@ static WORDS: [WordRow; 37] = [
     },
     WordRow {
         name: "force",
-        what: "Lets --log, --callgrind and --output write over any file",
+        what: "Lets --log, --callgrind, --svg, --html and --output write over any file",
         ..FLAG
     },
     WordRow {
