@@ -1,0 +1,2 @@
+pub mod Foci
+pub mod Wishes

@@ -1,0 +1,8 @@
+//! Wishes: a configuration that asks for metrics at foci, and the foci of procedures and modules.
+#![tactic(auto)]
+
+mod foci;
+mod wishes;
+
+pub use foci::{module_foci, procedure_foci};
+pub use wishes::{AskedInterval, ask_text};
