@@ -3,7 +3,7 @@ use Rattle.std.proofs.Common.{◌≡◌, ℕ, List, Result, Ok, Err, sym, ◌∙
 use Rattle.std.specs.Prelude.{IsSome}
 use Rattle.outside.specs.Outside.{Holding, IsCalm}
 use Rattle.refusals.specs.declared.fault.Fault.{Fault}
-use Rattle.refusals.specs.declared.fault.Fault.TheVariants.{Usage, FileFault, BadProgram, BadConf, BadPick, BadLog, TooManyBlocks, BadDirectives, BadReport, NoProcedure, NoLines, BadLines}
+use Rattle.refusals.specs.declared.fault.Fault.TheVariants.{Usage, FileFault, BadProgram, BadConf, BadPick, BadLog, TooManyBlocks, BadDirectives, BadReport, BadNewReport, NoProcedure, NoLines, BadLines}
 use Rattle.refusals.specs.declared.refusal.Refusal.{Refusal}
 use Rattle.refusals.specs.declared.refusal.Refusal.TheVariants as refusal
 use Rattle.commands.specs.FileReadings.{Counted, Looks}
@@ -26,6 +26,7 @@ module _ {F : Type 0} (holds : F → List ℕ → Holding) (faults : F → List 
   counted_behind (TooManyBlocks count) later = calm_behind later
   counted_behind (BadDirectives fault) later = calm_behind later
   counted_behind (BadReport place) later = calm_behind later
+  counted_behind (BadNewReport place) later = calm_behind later
   counted_behind (NoProcedure name) later = calm_behind later
   counted_behind NoLines later = calm_behind later
   counted_behind (BadLines place) later = calm_behind later

@@ -34,7 +34,7 @@ use Rattle.refusals.specs.Kinds.{fault_at}
 use Rattle.refusals.specs.Refusals.{Step, Then}
 use Rattle.refusals.specs.declared.configuration.ConfKind.TheVariants.{TooLong as TooLongConf}
 use Rattle.refusals.specs.declared.fault.Fault.{Fault}
-use Rattle.refusals.specs.declared.fault.Fault.TheVariants.{Usage, FileFault, BadProgram, BadConf, BadPick, BadLog, TooManyBlocks, BadDirectives, BadReport, NoProcedure, NoLines, BadLines}
+use Rattle.refusals.specs.declared.fault.Fault.TheVariants.{Usage, FileFault, BadProgram, BadConf, BadPick, BadLog, TooManyBlocks, BadDirectives, BadReport, BadNewReport, NoProcedure, NoLines, BadLines}
 use Rattle.refusals.specs.declared.log.LogCause.TheVariants.{TooLong as TooLongLog}
 use Rattle.refusals.specs.declared.program.ProgramFault.TheVariants.{TooLong}
 use Rattle.resource_tree.specs.Foci.{canonical}
@@ -87,6 +87,7 @@ NotFile (BadLog place why) = ⊤
 NotFile (TooManyBlocks count) = ⊤
 NotFile (BadDirectives fault) = ⊤
 NotFile (BadReport place) = ⊤
+NotFile (BadNewReport place) = ⊤
 NotFile (NoProcedure name) = ⊤
 NotFile NoLines = ⊤
 NotFile (BadLines place) = ⊤

@@ -4,7 +4,7 @@ use Rattle.outside.specs.Causes.{Rose}
 use Rattle.outside.specs.Outside.{Holding, IsBytes, IsWhole, IsCalm, ReadsOnly}
 use Rattle.refusals.specs.Refusals.{Step, Then}
 use Rattle.refusals.specs.declared.fault.Fault.{Fault}
-use Rattle.refusals.specs.declared.fault.Fault.TheVariants.{Usage, FileFault, BadProgram, BadConf, BadPick, BadLog, TooManyBlocks, BadDirectives, BadReport, NoProcedure, NoLines, BadLines}
+use Rattle.refusals.specs.declared.fault.Fault.TheVariants.{Usage, FileFault, BadProgram, BadConf, BadPick, BadLog, TooManyBlocks, BadDirectives, BadReport, BadNewReport, NoProcedure, NoLines, BadLines}
 use Rattle.refusals.specs.declared.refusal.Refusal.{Refusal}
 use Rattle.refusals.specs.declared.refusal.Refusal.TheVariants as refusal
 
@@ -36,6 +36,7 @@ Counted holds faults old new (BadLog place cause) = IsCalm faults old new
 Counted holds faults old new (TooManyBlocks count) = IsCalm faults old new
 Counted holds faults old new (BadDirectives fault) = IsCalm faults old new
 Counted holds faults old new (BadReport place) = IsCalm faults old new
+Counted holds faults old new (BadNewReport place) = IsCalm faults old new
 Counted holds faults old new (NoProcedure name) = IsCalm faults old new
 Counted holds faults old new NoLines = IsCalm faults old new
 Counted holds faults old new (BadLines place) = IsCalm faults old new

@@ -6,7 +6,7 @@ use Rattle.command_words.specs.Requests.{request_of}
 use Rattle.outside.specs.Causes.{count_up}
 use Rattle.outside.specs.Outside.{Holding}
 use Rattle.refusals.specs.declared.fault.Fault.{Fault}
-use Rattle.refusals.specs.declared.fault.Fault.TheVariants.{Usage, FileFault, BadProgram, BadConf, BadPick, BadLog, TooManyBlocks, BadDirectives, BadReport, NoProcedure, NoLines, BadLines}
+use Rattle.refusals.specs.declared.fault.Fault.TheVariants.{Usage, FileFault, BadProgram, BadConf, BadPick, BadLog, TooManyBlocks, BadDirectives, BadReport, BadNewReport, NoProcedure, NoLines, BadLines}
 use Rattle.headline.specs.Answers.{status_of, texts_of}
 use Rattle.headline.specs.Delivery.{IsTorn}
 use Rattle.commands.specs.Due.{AreOne, IsDue, is_live}
@@ -70,6 +70,7 @@ module _ {F K L : Type 0} (holds : F → List ℕ → Holding) (faults : F → L
     status_three name rose (Err (TooManyBlocks count)) owed = absurd (rose (owed.counts name))
     status_three name rose (Err (BadDirectives fault)) owed = absurd (rose (owed.counts name))
     status_three name rose (Err (BadReport place)) owed = absurd (rose (owed.counts name))
+    status_three name rose (Err (BadNewReport place)) owed = absurd (rose (owed.counts name))
     status_three name rose (Err (NoProcedure path)) owed = absurd (rose (owed.counts name))
     status_three name rose (Err NoLines) owed = absurd (rose (owed.counts name))
     status_three name rose (Err (BadLines place)) owed = absurd (rose (owed.counts name))

@@ -9,7 +9,7 @@ use Rattle.outside.specs.Causes.{count_up, Rose}
 use Rattle.outside.specs.Outside.{Holding, IsWhole, IsCalm}
 use Rattle.refusals.proofs.Steps.{IsOne}
 use Rattle.refusals.specs.declared.fault.Fault.{Fault}
-use Rattle.refusals.specs.declared.fault.Fault.TheVariants.{Usage, FileFault, BadProgram, BadConf, BadPick, BadLog, TooManyBlocks, BadDirectives, BadReport, NoProcedure, NoLines, BadLines}
+use Rattle.refusals.specs.declared.fault.Fault.TheVariants.{Usage, FileFault, BadProgram, BadConf, BadPick, BadLog, TooManyBlocks, BadDirectives, BadReport, BadNewReport, NoProcedure, NoLines, BadLines}
 use Rattle.commands.proofs.OneDue.{Laws, due_once, of_same}
 use Rattle.commands.proofs.Rising.{NotFile, rises}
 use Rattle.commands.specs.Due.{AreOne, is_live}
@@ -32,6 +32,7 @@ naming (BadLog place why) = Other (BadLog place why) tt
 naming (TooManyBlocks count) = Other (TooManyBlocks count) tt
 naming (BadDirectives fault) = Other (BadDirectives fault) tt
 naming (BadReport place) = Other (BadReport place) tt
+naming (BadNewReport place) = Other (BadNewReport place) tt
 naming (NoProcedure name) = Other (NoProcedure name) tt
 naming NoLines = Other NoLines tt
 naming (BadLines place) = Other (BadLines place) tt
@@ -57,6 +58,7 @@ module _ {F : Type 0} (holds : F → List ℕ → Holding) (faults : F → List 
   calm_of (TooManyBlocks count) other c = c
   calm_of (BadDirectives fault) other c = c
   calm_of (BadReport place) other c = c
+  calm_of (BadNewReport place) other c = c
   calm_of (NoProcedure name) other c = c
   calm_of NoLines other c = c
   calm_of (BadLines place) other c = c

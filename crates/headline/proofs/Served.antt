@@ -3,7 +3,7 @@ use Rattle.std.proofs.Common.{◌≡◌, inl, inr, ℕ, List, Some, Result, Ok, 
 use Rattle.outside.specs.Outside.{Holding}
 use Rattle.refusals.specs.Refusals.{Comes}
 use Rattle.refusals.specs.declared.fault.Fault.{Fault}
-use Rattle.refusals.specs.declared.fault.Fault.TheVariants.{Usage, FileFault, BadProgram, BadConf, BadPick, BadLog, TooManyBlocks, BadDirectives, BadReport, NoProcedure, NoLines, BadLines}
+use Rattle.refusals.specs.declared.fault.Fault.TheVariants.{Usage, FileFault, BadProgram, BadConf, BadPick, BadLog, TooManyBlocks, BadDirectives, BadReport, BadNewReport, NoProcedure, NoLines, BadLines}
 use Rattle.refusals.specs.declared.refusal.Refusal.{Refusal}
 use Rattle.refusals.specs.declared.refusal.Refusal.TheVariants as refusal
 use Rattle.commands.specs.Due.{IsDue}
@@ -37,6 +37,7 @@ module _ {F : Type 0} (holds : F → List ℕ → Holding) (faults : F → List 
   untold_fault (TooManyBlocks count) due looks = inl looks.counts
   untold_fault (BadDirectives fault) due looks = inl looks.counts
   untold_fault (BadReport place) due looks = inl looks.counts
+  untold_fault (BadNewReport place) due looks = inl looks.counts
   untold_fault (NoProcedure name) due looks = inl looks.counts
   untold_fault NoLines due looks = inl looks.counts
   untold_fault (BadLines place) due looks = inl looks.counts
@@ -62,6 +63,7 @@ unlooked {A} {F} holds faults files (Err (refusal.Fault fault)) = record { same 
     by (TooManyBlocks count) = λ name. refl
     by (BadDirectives fault) = λ name. refl
     by (BadReport place) = λ name. refl
+    by (BadNewReport place) = λ name. refl
     by (NoProcedure path) = λ name. refl
     by NoLines = λ name. refl
     by (BadLines place) = λ name. refl

@@ -1,20 +1,20 @@
 -- The foci of procedures, and of their modules, within another focus.
-use Rattle.std.specs.Prelude.{ℕ, ◌==◌, if◌then◌else◌, Bool, Some, List, [], ◌∷◌, ◌++◌, codes, drop, flat_map, length, map}
-use Rattle.std.specs.List.{before_first}
+use Rattle.std.specs.Prelude.{ℕ, if◌then◌else◌, Bool, Some, List, [], ◌∷◌, ◌++◌, codes, drop, flat_map, length, map, position, take, unwrap_or}
 use Rattle.first_places.specs.Groups.{first_mentions}
 use Rattle.pn_text.specs.Bytes.{begins_with}
 use Rattle.pn_types.specs.declared.code.Proc.{Proc}
 use Rattle.report.specs.Points.{proc_path}
-
-abbrev pub is_comma : ℕ → Bool
-is_comma byte = byte == 44
+use Rattle.resource_tree.specs.FocusTexts.{is_comma}
 
 -- the part of a canonical focus that says of the code, which is the first, and what stands behind it
+abbrev pub code_len : List ℕ → ℕ
+code_len focus = unwrap_or (position is_comma focus) (length focus)
+
 abbrev pub code_part : List ℕ → List ℕ
-code_part focus = before_first is_comma focus
+code_part focus = take (code_len focus) focus
 
 abbrev pub other_parts : List ℕ → List ℕ
-other_parts focus = drop (length (code_part focus)) focus
+other_parts focus = drop (code_len focus) focus
 
 -- a node of the code is the one of a path, or below it
 unfoldable pub is_within : List ℕ → List ℕ → Bool

@@ -1,21 +1,28 @@
 //! The foci of procedures and of modules.
 
-ghost use Rattle.std.specs.Prelude.{◌≡◌, ◌++◌, ◌<◌, ◌^◌, ◌∷◌, [], if◌then◌else◌, flat_map, length, map, take, IfOk, OnOk};
+ghost use Rattle.std.specs.Prelude.{◌≡◌, ◌++◌, ◌<◌, ◌≤◌, ◌^◌, ◌∷◌, [], if◌then◌else◌, flat_map, length, map, position, take, IfOk, IfSome, OnOk};
+ghost use Rattle.resource_tree.specs.FocusTexts.{is_comma};
 ghost use Rattle.first_places.specs.Groups.{first_mentions};
-ghost use Rattle.pair_wishes.specs.Foci.{code_part, focus_at, is_comma, is_within, module_foci, module_node, other_parts, procedure_foci, procedure_node};
+ghost use Rattle.pair_wishes.specs.Foci.{code_len, code_part, focus_at, is_within, module_foci, module_node, other_parts, procedure_foci, procedure_node};
 
-use first_places::PlacesByName;
+use first_places::FirstPlaces;
 use pn_types::{NoMemory, Proc, Text};
 use std::alloc::Global;
 
+/// Returns where the first comma stands.
+fn first_comma(text: &[u8]) -> Option<usize>
+    ensures number { result ≡ position is_comma text.now }
+    ensures range { IfSome result (λ place. place < length text.now) }
+{
+    text.iter().position(|byte| *byte == b',')
+}
+
 /// Returns the length of the part of a focus that says of the code.
 fn code_len(focus: &[u8]) -> usize
-    ensures { result ≡ length (code_part focus.now) }
+    ensures number { result ≡ code_len focus.now }
+    ensures range { result ≤ length focus.now }
 {
-    focus
-        .iter()
-        .position(|byte| *byte == b',')
-        .unwrap_or(focus.len())
+    first_comma(focus).unwrap_or(focus.len())
 }
 
 /// Returns whether a node of the code is the one of a path, or below it.
@@ -86,27 +93,32 @@ fn procedure_nodes(alloc: Global, procs: &[&Proc]) -> Result<Vec<Text>, NoMemory
     Ok(nodes)
 }
 
-/// Returns the nodes of the modules of procedures, for each procedure one.
-fn module_nodes(alloc: Global, procs: &[&Proc]) -> Result<PlacesByName, NoMemory>
-    requires { length procs.now < 2 ^ 32 }
-    ensures { IfOk result (λ nodes. nodes ≡ map module_node (map (λ proc. proc.now) procs.now)) }
+/// Adds a node, where it isn't among those that were seen, and notes that it was.
+fn add_distinct(
+    alloc: Global,
+    seen: &mut FirstPlaces,
+    distinct: &mut Vec<Text>,
+    node: Text,
+) -> Result<(), NoMemory>
+    requires { distinct.old.items ≡ first_mentions seen.old }
+    ensures seen { OnOk result (seen.new ≡ seen.old ++ node ∷ []) }
+    ensures distinct { OnOk result (distinct.new.items ≡ first_mentions seen.new) }
 {
-    let mut nodes = PlacesByName::new(alloc);
-    for proc in procs {
-        nodes.push(alloc, module_node(alloc, proc)?.bytes())?;
+    let known = seen.push(alloc, node.bytes())?;
+    if !known {
+        distinct.push(node)?;
     }
-    Ok(nodes)
+    Ok(())
 }
 
-/// Returns the names of a list, each once.
-fn distinct(alloc: Global, names: &PlacesByName) -> Result<Vec<Text>, NoMemory>
-    ensures { IfOk result (λ distinct. distinct.items ≡ first_mentions names.now) }
+/// Returns the nodes of the modules of procedures, each once.
+fn module_nodes(alloc: Global, procs: &[&Proc]) -> Result<Vec<Text>, NoMemory>
+    ensures { IfOk result (λ nodes. nodes.items ≡ first_mentions (map module_node (map (λ proc. proc.now) procs.now))) }
 {
+    let mut seen = FirstPlaces::new(alloc);
     let mut distinct = Vec::new(alloc);
-    for group in 0..names.group_count() {
-        if let Some(name) = names.name(group) {
-            distinct.push(Text::from_vec(Vec::from_slice(alloc, name)?))?;
-        }
+    for proc in procs {
+        add_distinct(alloc, &mut seen, &mut distinct, module_node(alloc, proc)?)?;
     }
     Ok(distinct)
 }
@@ -129,10 +141,8 @@ pub fn procedure_foci(alloc: Global, focus: &[u8], procs: &[&Proc]) -> Result<Ve
 ///
 /// `NoMemory` where memory runs out.
 pub fn module_foci(alloc: Global, focus: &[u8], procs: &[&Proc]) -> Result<Vec<Text>, NoMemory>
-    requires { length procs.now < 2 ^ 32 }
     ensures { IfOk result (λ foci. foci.items ≡ module_foci focus.now (map (λ proc. proc.now) procs.now)) }
 {
     let nodes = module_nodes(alloc, procs)?;
-    let distinct = distinct(alloc, &nodes)?;
-    foci_at(alloc, focus, &distinct)
+    foci_at(alloc, focus, &nodes)
 }

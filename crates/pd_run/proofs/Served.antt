@@ -5,7 +5,7 @@ use Rattle.commands.specs.declared.texts.Texts.{Texts}
 use Rattle.outside.specs.Outside.{Holding}
 use Rattle.refusals.specs.Faults.{fault_status}
 use Rattle.refusals.specs.declared.fault.Fault.{Fault}
-use Rattle.refusals.specs.declared.fault.Fault.TheVariants.{Usage, FileFault, BadProgram, BadConf, BadPick, BadLog, TooManyBlocks, BadDirectives, BadReport, NoProcedure, NoLines, BadLines}
+use Rattle.refusals.specs.declared.fault.Fault.TheVariants.{Usage, FileFault, BadProgram, BadConf, BadPick, BadLog, TooManyBlocks, BadDirectives, BadReport, BadNewReport, NoProcedure, NoLines, BadLines}
 use Rattle.headline.specs.Answers.{status_of, texts_of}
 use Rattle.headline.specs.Program.{OwedIsHonest}
 use Rattle.headline.specs.Serving.{AreGained, IsOwed, IsServedCall}
@@ -21,6 +21,7 @@ not_zero (BadLog place cause) e = omega arith
 not_zero (TooManyBlocks count) e = omega arith
 not_zero (BadDirectives fault) e = omega arith
 not_zero (BadReport place) e = omega arith
+not_zero (BadNewReport place) e = omega arith
 not_zero (NoProcedure name) e = omega arith
 not_zero NoLines e = omega arith
 not_zero (BadLines place) e = omega arith

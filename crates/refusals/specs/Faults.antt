@@ -7,7 +7,7 @@ use Rattle.elf_form.specs.declared.fault.ElfFault.TheVariants as elf
 use Rattle.rv_asm.specs.declared.fault.AsmFault.{AsmFault}
 use Rattle.rv_asm.specs.declared.fault.AsmFault.TheVariants as asm
 use Rattle.refusals.specs.declared.fault.Fault.{Fault}
-use Rattle.refusals.specs.declared.fault.Fault.TheVariants.{Usage, FileFault, BadProgram, BadConf, BadPick, BadLog, TooManyBlocks, BadDirectives, BadReport, NoProcedure, NoLines, BadLines}
+use Rattle.refusals.specs.declared.fault.Fault.TheVariants.{Usage, FileFault, BadProgram, BadConf, BadPick, BadLog, TooManyBlocks, BadDirectives, BadReport, BadNewReport, NoProcedure, NoLines, BadLines}
 use Rattle.refusals.specs.Kinds.{kind_text}
 use Rattle.refusals.specs.declared.configuration.ConfFault.{ConfFault}
 use Rattle.refusals.specs.declared.log.LogCause.{LogCause}
@@ -81,6 +81,7 @@ fault_line (BadLog place cause) = codes "paradyn: bad log at " ++ decimal place 
 fault_line (TooManyBlocks count) = codes "paradyn: too many blocks " ++ decimal count ++ codes "\n"
 fault_line (BadDirectives fault) = codes "paradyn: bad directives: " ++ conf_text fault ++ codes "\n"
 fault_line (BadReport place) = codes "paradyn: bad report at " ++ decimal place ++ codes "\n"
+fault_line (BadNewReport place) = codes "paradyn: bad new report at " ++ decimal place ++ codes "\n"
 fault_line (NoProcedure name) = codes "paradyn: no procedure " ++ name ++ codes "\n"
 fault_line NoLines = codes "paradyn: no line table\n"
 fault_line (BadLines place) = codes "paradyn: bad line table at " ++ decimal place ++ codes "\n"
@@ -95,6 +96,7 @@ fault_status (BadLog place cause) = 9
 fault_status (TooManyBlocks count) = 11
 fault_status (BadDirectives fault) = 12
 fault_status (BadReport place) = 13
+fault_status (BadNewReport place) = 13
 fault_status (NoProcedure name) = 14
 fault_status NoLines = 15
 fault_status (BadLines place) = 15

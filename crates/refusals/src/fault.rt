@@ -29,6 +29,8 @@ pub enum Fault {
     BadDirectives(ConfFault),
     /// The report is faulty at this place, in bytes from its front.
     BadReport(u64),
+    /// The second of two reports is faulty at this place, in bytes from its front.
+    BadNewReport(u64),
     /// No procedure of the program has this name.
     NoProcedure(Text),
     /// The program has no line table.
@@ -51,7 +53,7 @@ impl Fault {
             Fault::BadLog(_, _) => 9,
             Fault::TooManyBlocks(_) => 11,
             Fault::BadDirectives(_) => 12,
-            Fault::BadReport(_) => 13,
+            Fault::BadReport(_) | Fault::BadNewReport(_) => 13,
             Fault::NoProcedure(_) => 14,
             Fault::NoLines | Fault::BadLines(_) => 15,
         }

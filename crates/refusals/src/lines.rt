@@ -95,6 +95,20 @@ fn bad_report(alloc: Global, place: u64) -> Result<Vec<u8>, NoMemory>
     Ok(line)
 }
 
+fn bad_new_report(alloc: Global, place: u64) -> Result<Vec<u8>, NoMemory>
+    ensures { IfOk result (λ text. text.items ≡ fault_line (Fault.BadNewReport place)) }
+{
+    let mut line = Vec::new(alloc);
+    add_number(
+        alloc,
+        &mut line,
+        b"paradyn: bad new report at ",
+        place as u128,
+    )?;
+    line.extend_from_slice(b"\n")?;
+    Ok(line)
+}
+
 fn bad_lines(alloc: Global, place: u64) -> Result<Vec<u8>, NoMemory>
     ensures { IfOk result (λ text. text.items ≡ fault_line (Fault.BadLines place)) }
 {
@@ -141,6 +155,7 @@ pub fn faults_text(alloc: Global, fault: &Fault) -> Result<Vec<u8>, NoMemory>
         Fault::TooManyBlocks(count) => Ok(too_many_blocks(alloc, *count)?),
         Fault::BadDirectives(fault) => Ok(bad_directives(alloc, *fault)?),
         Fault::BadReport(place) => Ok(bad_report(alloc, *place)?),
+        Fault::BadNewReport(place) => Ok(bad_new_report(alloc, *place)?),
         Fault::NoProcedure(name) => Ok(no_procedure(alloc, name)?),
         Fault::NoLines => Ok(b"paradyn: no line table\n".to_vec(alloc)?),
         Fault::BadLines(place) => Ok(bad_lines(alloc, *place)?),
