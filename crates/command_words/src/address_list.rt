@@ -1,6 +1,6 @@
-//! Addresses as words give them.
+//! Addresses and names as words give them, parted by commas.
 
-ghost use Rattle.std.specs.Prelude.{◌≡◌, ◌+◌, ◌*◌, ◌<◌, ◌∷◌, IfOk, IfSome, length, option_map, position};
+ghost use Rattle.std.specs.Prelude.{◌≡◌, ◌+◌, ◌*◌, ◌<◌, ◌∷◌, IfOk, IfSome, length, map, option_map, position};
 ghost use Rattle.std.specs.List.{slice_split};
 ghost use Rattle.std.specs.Option.{option_and_then};
 ghost use Rattle.command_words.specs.Addresses.{hex_digit, hex_from, narrow, address_of, is_comma, parts_left, are_addresses, addresses_of};
@@ -102,4 +102,22 @@ pub fn addresses(alloc: Global, text: &str) -> Result<Vec<u64>, NoMemory>
         left = rest;
     }
     Ok(addresses)
+}
+
+/// Returns the names of metrics in a text that commas part.
+///
+/// # Errors
+///
+/// `NoMemory` where memory runs out.
+pub fn metric_names<'a>(alloc: Global, text: &'a str) -> Result<Vec<&'a [u8]>, NoMemory>
+    ensures { IfOk result (λ names. map (λ name. name.now) names.items ≡ slice_split is_comma text.now) }
+{
+    let mut names = Vec::new(alloc);
+    let mut left = Some(text.as_bytes());
+    while let Some(text) = left {
+        let (part, rest) = first_part(text);
+        names.push(part)?;
+        left = rest;
+    }
+    Ok(names)
 }

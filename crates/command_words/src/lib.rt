@@ -18,7 +18,7 @@ mod values;
 mod walking;
 mod word_kind;
 
-pub use address_list::addresses;
+pub use address_list::{addresses, metric_names};
 pub use asking::{begin_threaded, read_request};
 pub use commands::CommandName;
 pub use logging::log_name;

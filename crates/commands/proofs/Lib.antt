@@ -10,6 +10,9 @@ mod Numbered
 mod Given
 mod Counted
 mod Profiled
+mod Asked
+mod AskedNames
+mod AskedFoci
 pub mod OneDue
 pub mod Rising
 mod Procs

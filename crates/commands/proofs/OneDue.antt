@@ -1,6 +1,6 @@
 -- What is due is unique where each file was seen as one thing.
 use Rattle.std.proofs.Common.{◌≡◌, ℕ, Bool, true, false, List, Option, Some, None, Result, Ok, Err, refl, sym, ap, ◌∙◌}
-use Rattle.command_words.specs.Requests.{Request, SessionRequest, LiveRequest, ReplayRequest, PlanRequest, DirectRequest, ShowRequest, run, live, replay, plan, asm, points, relog, stress, blocks, visi, advise, direct, profile, annotate, show, request_of}
+use Rattle.command_words.specs.Requests.{Request, SessionRequest, LiveRequest, ReplayRequest, PlanRequest, DirectRequest, ShowRequest, DiffRequest, AskRequest, run, live, replay, plan, asm, points, relog, stress, blocks, visi, advise, direct, profile, annotate, show, diff, ask, request_of}
 use Rattle.command_words.specs.declared.requests.TurnOrder.{TurnOrder}
 use Rattle.advice.specs.Reading.{verdicts_of}
 use Rattle.directives.specs.Acts.{applied}
@@ -31,8 +31,9 @@ use Rattle.refusals.specs.declared.configuration.ConfKind.TheVariants.{TooLong a
 use Rattle.refusals.specs.declared.log.LogCause.TheVariants.{TooLong as TooLongLog}
 use Rattle.refusals.specs.declared.program.ProgramFault.TheVariants.{TooLong}
 use Rattle.refusals.specs.declared.fault.Fault.{Fault}
-use Rattle.refusals.specs.declared.fault.Fault.TheVariants.{Usage, BadProgram, BadConf, BadLog, BadDirectives, BadReport}
+use Rattle.refusals.specs.declared.fault.Fault.TheVariants.{Usage, BadProgram, BadConf, BadLog, BadDirectives, BadReport, BadNewReport}
 use Rattle.report_reader.specs.Reading.{report_in}
+use Rattle.report_reader.specs.declared.whole_report.Report.{Report}
 use Rattle.resource_tree.specs.Foci.{OneSelection, canonical}
 use Rattle.resource_tree.specs.Resources.{Resources}
 use Rattle.session_spec.specs.Inputs.{Inputs as SessionInputs}
@@ -41,7 +42,9 @@ use Rattle.session_spec.specs.declared.data.RefusedWish.{RefusedWish}
 use Rattle.whole_run.specs.Replayed.{misfit_of}
 use Rattle.whole_run.specs.Seeded.{OneSeeded}
 use Rattle.commands.specs.Advising.{advice_texts, IsAdviseDue, IsReportContent}
+use Rattle.commands.specs.Differing.{IsDiffDue, IsReportOfFile, diff_of, or_bad}
 use Rattle.commands.specs.Showing.{report_view_texts, IsShowDue}
+use Rattle.commands.specs.Asking.{IsAsk, IsAskAt, IsAskDue, IsAskFor, IsAskOf, known, shipped_metrics}
 use Rattle.commands.specs.Output.{output}
 use Rattle.commands.specs.Blocks.{AreCounted}
 use Rattle.commands.specs.Profiles.{AreProfileTexts, IsBytesAnnotation}
@@ -65,6 +68,7 @@ use Rattle.commands.specs.declared.logs.Log.{Log}
 use Rattle.commands.specs.declared.logs.TheConstants.{LOG_LIMIT}
 use Rattle.commands.specs.declared.texts.Texts.{Texts}
 use Rattle.commands.proofs.Counted.{counted_once}
+use Rattle.commands.proofs.Asked.{ask_at_once}
 use Rattle.commands.proofs.Profiled.{annotation_once, profile_once}
 
 -- the laws of what the top call's steps stand upon
@@ -193,6 +197,19 @@ module _ (laws : Laws) where
       (λ m. one_then (IsSelected found.tree p.focus) (IsPlanAt p.metric found m) (selected_once found.tree p.focus)
       (λ focus. planned_once p.metric (canonical found.tree focus) (plan_of found.checked.constraints m focus found.tree found.procs found.points)))
 
+  -- ---- wishes
+
+  ask_once : (q : AskRequest) (image : Image) (found : Found) → IsOne (IsAsk q image found)
+  ask_once q image found =
+      one_then (λ names. names ≡ known found.checked.metrics q.metrics) (λ names. Then (IsSelected found.tree q.under) (IsAskAt q image found.tree names))
+      (equal_once (known found.checked.metrics q.metrics))
+      (λ names. one_then (IsSelected found.tree q.under) (IsAskAt q image found.tree names) (selected_once found.tree q.under) (ask_at_once q image found.tree names))
+
+  ask_of_once : (q : AskRequest) (image : Image) → IsOne (IsAskOf q image)
+  ask_of_once q image =
+      one_then (MeansConf shipped_metrics) (IsAskFor q image) (conf_once shipped_metrics)
+      (λ conf. one_then (IsFound image q.counted.harts conf) (IsAsk q image) (found_once image q.counted.harts conf) (ask_once q image))
+
   -- ---- sessions
 
   opened_once : (pick : Option RefusedWish) (i : SessionInputs) (comes : Step Texts) → IsOne comes → IsOne (IsOpened pick i comes)
@@ -269,6 +286,17 @@ module _ (laws : Laws) where
         one_then (IsReportContent sees q.report) (λ bytes texts. texts ≡ report_view_texts q (report_in bytes)) (content_once REPORT_LIMIT (BadReport REPORT_LIMIT) q.report)
         (λ bytes. equal_once (report_view_texts q (report_in bytes)))
 
+    report_once : (bad : ℕ → Fault) (name : List ℕ) → IsOne (IsReportOfFile bad sees name)
+    report_once bad name =
+        one_then (IsContent sees REPORT_LIMIT (bad REPORT_LIMIT) name) (λ bytes report. report ≡ or_bad bad (report_in bytes)) (content_once REPORT_LIMIT (bad REPORT_LIMIT) name)
+        (λ bytes. equal_once (or_bad bad (report_in bytes)))
+
+    diff_due_once : (q : DiffRequest) → IsOne (IsDiffDue q sees)
+    diff_due_once q =
+        let ended : Report → Report → Step Texts = λ old new texts. texts ≡ Ok (output (diff_of old new)) in
+        one_then (IsReportOfFile BadReport sees q.old) (λ old. Then (IsReportOfFile BadNewReport sees q.new) (ended old)) (report_once BadReport q.old)
+        (λ old. one_then (IsReportOfFile BadNewReport sees q.new) (ended old) (report_once BadNewReport q.new) (λ new. equal_once (Ok (output (diff_of old new)))))
+
     directions_once : (name : List ℕ) → IsOne (AreDirectives sees name)
     directions_once name =
         one_then (IsDirectivesContent sees name) MeansDirectives (content_once DIRECTIVES_LIMIT (BadDirectives (fault_at 0 0 TooLongConf)) name) directives_once
@@ -317,6 +345,8 @@ module _ (laws : Laws) where
     due_for_once (Some (annotate r)) other =
         one_then (IsProgramContent sees r.source.counted.program) (IsBytesAnnotation r) (content_once sees once MAX_PROGRAM_LEN (BadProgram TooLong) r.source.counted.program) (annotation_once r)
     due_for_once (Some (show q)) other = show_due_once sees once q
+    due_for_once (Some (diff q)) other = diff_due_once sees once q
+    due_for_once (Some (ask q)) other = one_then (IsProgramOfFile sees q.counted.program) (IsAskOf q) (program_once sees once q.counted.program) (ask_of_once q)
 
     due_for_alike : (asked : Option Request) (a b : Result Texts Fault) → IsDueFor asked sees a → IsDueFor asked sees b → AreLike a b
     due_for_alike None a b d e = of_same a b (due_for_once None refl a b d e)
@@ -335,6 +365,8 @@ module _ (laws : Laws) where
     due_for_alike (Some (profile r)) a b d e = of_same a b (due_for_once (Some (profile r)) refl a b d e)
     due_for_alike (Some (annotate r)) a b d e = of_same a b (due_for_once (Some (annotate r)) refl a b d e)
     due_for_alike (Some (show r)) a b d e = of_same a b (due_for_once (Some (show r)) refl a b d e)
+    due_for_alike (Some (diff r)) a b d e = of_same a b (due_for_once (Some (diff r)) refl a b d e)
+    due_for_alike (Some (ask r)) a b d e = of_same a b (due_for_once (Some (ask r)) refl a b d e)
 
     by_kind : (words : List (List ℕ)) (is : Bool) → is_live (request_of words) ≡ is → (a b : Result Texts Fault) → IsDue words sees a → IsDue words sees b → AreOne is a b
     by_kind words true e a b due other = due_for_alike (request_of words) a b due other

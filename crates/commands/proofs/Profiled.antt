@@ -63,14 +63,14 @@ module _ (s : ProfileSource) (image : Image) where
       let ticks : sum a.counts.ticks ≡ sum b.counts.ticks = ap (λ (c : Counts). sum c.ticks) counts in
       of_parts a b counts numbers (omega (arith, is.all, it.all, told, ticks))
 
-  profiled_once : IsOne (IsProfiled s image)
+  pub profiled_once : IsOne (IsProfiled s image)
   profiled_once (Ok a) (Ok b) is it = ap (λ (r : Profile). Ok r) (profile_is a b is it)
   profiled_once (Ok a) (Err f) is (n, many, why) = absurd (omega (arith, is.counted.few, many.0, many.1))
   profiled_once (Err e) (Ok b) (n, many, why) it = absurd (omega (arith, it.counted.few, many.0, many.1))
   profiled_once (Err e) (Err f) (n, many, why) (m, more, because) = let same : n ≡ m = sym many.0 ∙ more.0 in cc
 
   -- no file is at fault
-  profiled_spared : (name : List ℕ) → IsProfiled s image (Err (FileFault name)) → ⊥
+  pub profiled_spared : (name : List ℕ) → IsProfiled s image (Err (FileFault name)) → ⊥
   profiled_spared name (n, many, why) = absurd cc
 
   then_spared : (texts_of : Profile → Texts) (name : List ℕ) → Then (IsProfiled s image) (λ r texts. texts ≡ Ok (texts_of r)) (Err (FileFault name)) → ⊥

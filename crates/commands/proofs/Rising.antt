@@ -9,7 +9,7 @@ use Rattle.advice.specs.declared.verdict.Verdict.{Verdict}
 use Rattle.directives.specs.Acts.{applied}
 use Rattle.directives.specs.declared.fault.DirectiveFault.{DirectiveFault}
 use Rattle.mdl_ast.specs.declared.items.Item.{Item}
-use Rattle.command_words.specs.Requests.{Request, SessionRequest, ReplayRequest, PlanRequest, StressRequest, DirectRequest, ShowRequest, run, live, replay, plan, asm, points, relog, stress, blocks, visi, advise, direct, profile, annotate, show, request_of}
+use Rattle.command_words.specs.Requests.{Request, SessionRequest, ReplayRequest, PlanRequest, StressRequest, DirectRequest, ShowRequest, DiffRequest, AskRequest, run, live, replay, plan, asm, points, relog, stress, blocks, visi, advise, direct, profile, annotate, show, diff, ask, request_of}
 use Rattle.elf_form.specs.Meaning.{meaning_of}
 use Rattle.elf_form.specs.declared.fault.ElfFault.{ElfFault}
 use Rattle.elf_form.specs.declared.limits.TheConstants.{MAX_PROGRAM_LEN}
@@ -50,6 +50,8 @@ use Rattle.whole_run.specs.declared.misfit.Misfit.TheVariants as misfit
 use Rattle.commands.specs.Given.{inputs_with}
 use Rattle.report_reader.specs.Reading.{report_in}
 use Rattle.report_reader.specs.declared.whole_report.Report.{Report}
+use Rattle.commands.specs.Asking.{IsAsk, IsAskAt, IsAskDue, IsAskFor, IsAskOf, known, shipped_metrics}
+use Rattle.commands.specs.Differing.{IsDiffDue, IsReportOfFile, diff_of, or_bad}
 use Rattle.commands.specs.Showing.{report_view_texts, IsShowDue}
 use Rattle.commands.specs.Advising.{advice_texts, IsAdviseDue, IsReportContent}
 use Rattle.commands.specs.Output.{output}
@@ -73,6 +75,7 @@ use Rattle.commands.specs.declared.logs.Log.{Log}
 use Rattle.commands.specs.declared.logs.TheConstants.{LOG_LIMIT}
 use Rattle.commands.specs.declared.texts.Texts.{Texts}
 use Rattle.commands.proofs.Counted.{counted_spared}
+use Rattle.commands.proofs.Asked.{ask_at_spared, known_spared}
 use Rattle.commands.proofs.Profiled.{annotation_spared, profile_spared}
 
 -- ---- what names no file as unread
@@ -171,6 +174,17 @@ view_spared : (q : ShowRequest) (r : Result Report ReportFault) → Spares (repo
 view_spared q (Ok report) = tt
 view_spared q (Err (report_fault.BadReport place)) = tt
 
+or_bad_spared : (bad : ℕ → Fault) → ((place : ℕ) → NotFile (bad place)) → (r : Result Report ReportFault) → Spares (or_bad bad r)
+or_bad_spared bad spare (Ok report) = tt
+or_bad_spared bad spare (Err (report_fault.BadReport place)) = spare place
+
+ask_spared : (q : AskRequest) (image : Image) (found : Found) (name : List ℕ) → IsAsk q image found (Err (FileFault name)) → ⊥
+ask_spared q image found name =
+    of_either ⊥ (λ names. names ≡ known found.checked.metrics q.metrics) (λ names. Then (IsSelected found.tree q.under) (IsAskAt q image found.tree names)) (FileFault name)
+    (known_spared found.checked.metrics q.metrics name)
+    (λ names. of_either ⊥ (IsSelected found.tree q.under) (IsAskAt q image found.tree names) (FileFault name) (λ (o, selects, e). focus_spared o name e)
+    (λ focus. ask_at_spared q image found.tree names focus name))
+
 directives_spared : (text : List ℕ) (name : List ℕ) → MeansDirectives text (Err (FileFault name)) → ⊥
 directives_spared text name (line, col, kind, wrong, e) = cc
 
@@ -265,6 +279,26 @@ module _ (name : List ℕ) (P : Type 0) (sees : FileReading) (at_file : (other :
       of_either P (IsReportContent sees q.report) (λ bytes texts. texts ≡ report_view_texts q (report_in bytes)) (FileFault name) (at_content name P sees at_file REPORT_LIMIT (BadReport REPORT_LIMIT) q.report tt)
       (λ bytes e. absurd (spared (report_view_texts q (report_in bytes)) name (view_spared q (report_in bytes)) e))
 
+  at_report : (bad : ℕ → Fault) → ((place : ℕ) → NotFile (bad place)) → (other : List ℕ) → IsReportOfFile bad sees other (Err (FileFault name)) → P
+  at_report bad spare other =
+      of_either P (IsContent sees REPORT_LIMIT (bad REPORT_LIMIT) other) (λ bytes report. report ≡ or_bad bad (report_in bytes)) (FileFault name)
+      (at_content name P sees at_file REPORT_LIMIT (bad REPORT_LIMIT) other (spare REPORT_LIMIT))
+      (λ bytes e. absurd (spared (or_bad bad (report_in bytes)) name (or_bad_spared bad spare (report_in bytes)) e))
+
+  at_diff : (q : DiffRequest) → IsDiffDue q sees (Err (FileFault name)) → P
+  at_diff q =
+      let ended : Report → Report → Result Texts Fault → Type 0 = λ old new texts. texts ≡ Ok (output (diff_of old new)) in
+      of_either P (IsReportOfFile BadReport sees q.old) (λ old. Then (IsReportOfFile BadNewReport sees q.new) (ended old)) (FileFault name)
+      (at_report BadReport (λ place. tt) q.old)
+      (λ old. of_either P (IsReportOfFile BadNewReport sees q.new) (ended old) (FileFault name) (at_report BadNewReport (λ place. tt) q.new) (λ new e. absurd (cc)))
+
+  at_ask : (q : AskRequest) → IsAskDue q sees (Err (FileFault name)) → P
+  at_ask q =
+      of_either P (IsProgramOfFile sees q.counted.program) (IsAskOf q) (FileFault name) (at_program name P sees at_file q.counted.program)
+      (λ image. of_either P (MeansConf shipped_metrics) (IsAskFor q image) (FileFault name) (λ wrong. absurd (conf_spared shipped_metrics name wrong))
+      (λ conf. of_either P (IsFound image q.counted.harts conf) (IsAsk q image) (FileFault name)
+      (λ wrong. absurd (check_spared (resources_of image q.counted.harts conf) conf name wrong)) (λ found e. absurd (ask_spared q image found name e))))
+
   at_directives : (other : List ℕ) → AreDirectives sees other (Err (FileFault name)) → P
   at_directives other =
       of_either P (IsDirectivesContent sees other) MeansDirectives (FileFault name)
@@ -307,6 +341,8 @@ module _ (name : List ℕ) (P : Type 0) (sees : FileReading) (at_file : (other :
   at_request (Some (visi r)) = at_session name P sees at_file r.session (IsInOrder r.order) (views_of r.views)
   at_request (Some (advise other)) = at_advice other
   at_request (Some (show q)) = at_view q
+  at_request (Some (diff q)) = at_diff q
+  at_request (Some (ask q)) = at_ask q
   at_request (Some (direct r)) = at_direct r
   at_request (Some (blocks r)) =
       of_either P (IsProgramOfFile sees r.program) (AreCounted r) (FileFault name) (at_program name P sees at_file r.program) (λ image e. absurd (counted_spared r image name e))

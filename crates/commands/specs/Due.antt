@@ -1,10 +1,11 @@
 -- What is due for words and files.
 use Rattle.std.specs.Prelude.{◌≡◌, ℕ, Bool, true, false, List, Option, None, Some, Result, Ok, Err}
-use Rattle.command_words.specs.Requests.{Request, run, live, replay, plan, asm, points, relog, stress, blocks, visi, advise, direct, profile, annotate, show, request_of}
+use Rattle.command_words.specs.Requests.{Request, run, live, replay, plan, asm, points, relog, stress, blocks, visi, advise, direct, profile, annotate, show, diff, ask, request_of}
 use Rattle.refusals.specs.Refusals.{Step}
 use Rattle.refusals.specs.declared.fault.Fault.{Fault}
 use Rattle.refusals.specs.declared.fault.Fault.TheVariants.{Usage}
 use Rattle.commands.specs.Advising.{IsAdviseDue}
+use Rattle.commands.specs.Asking.{IsAskDue}
 use Rattle.commands.specs.Blocks.{IsBlocksDue}
 use Rattle.commands.specs.Directing.{IsDirectDue}
 use Rattle.commands.specs.Listing.{IsPointsDue, IsAsmDue}
@@ -34,6 +35,8 @@ IsDueFor (Some (direct r)) sees texts = IsDirectDue r sees texts
 IsDueFor (Some (profile r)) sees texts = IsProfileDue r sees texts
 IsDueFor (Some (annotate r)) sees texts = IsAnnotateDue r sees texts
 IsDueFor (Some (show r)) sees texts = IsShowDue r sees texts
+IsDueFor (Some (diff r)) sees texts = ⊥
+IsDueFor (Some (ask r)) sees texts = IsAskDue r sees texts
 
 -- What is due for words and what was seen of files: the texts that were asked for, or the first fault.
 abbrev pub IsDue : List (List ℕ) → FileReading → Step Texts

@@ -3,8 +3,8 @@ use Rattle.std.specs.Prelude.{◌≡◌, ℕ, Bool, true, false, List, Result, O
 use Rattle.advice.specs.declared.fault.ReportFault.{ReportFault}
 use Rattle.advice.specs.declared.fault.ReportFault.TheVariants as fault
 use Rattle.command_words.specs.Requests.{ShowRequest}
-use Rattle.command_words.specs.declared.requests.BarStyle.{BarStyle}
-use Rattle.command_words.specs.declared.requests.BarStyle.TheVariants.{Ascii, Blocks}
+use Rattle.command_words.specs.declared.requests.ViewFormat.{ViewFormat}
+use Rattle.command_words.specs.declared.requests.ViewFormat.TheVariants.{Ascii, Blocks, Json, Csv, Svg, Html}
 use Rattle.refusals.specs.Refusals.{Step, Then}
 use Rattle.refusals.specs.declared.fault.Fault.{Fault}
 use Rattle.refusals.specs.declared.fault.Fault.TheVariants.{BadReport}
@@ -16,13 +16,17 @@ use Rattle.commands.specs.FileReadings.{FileReading}
 use Rattle.commands.specs.Output.{output}
 use Rattle.commands.specs.declared.texts.Texts.{Texts}
 
-abbrev pub is_ascii : BarStyle → Bool
-is_ascii Ascii = true
-is_ascii Blocks = false
+-- how a report is shown in a format
+abbrev pub view_in : ViewFormat → ℕ → Report → List ℕ
+view_in Blocks columns r = report_view false columns r.parts
+view_in Ascii columns r = report_view true columns r.parts
+view_in Json columns r = report_view true columns r.parts
+view_in Csv columns r = report_view true columns r.parts
+view_in Svg columns r = report_view true columns r.parts
+view_in Html columns r = report_view true columns r.parts
 
--- how a report is shown
 abbrev pub view_of : ShowRequest → Report → List ℕ
-view_of q r = report_view (is_ascii q.bars) q.columns r.parts
+view_of q r = view_in q.format q.columns r
 
 -- what was read is shown, or its first fault
 abbrev pub report_view_texts : ShowRequest → Result Report ReportFault → Result Texts Fault

@@ -3,6 +3,7 @@
 
 mod advising;
 mod annotating;
+mod asking;
 mod configuration;
 mod counting;
 mod directing;
@@ -28,6 +29,7 @@ mod viewing;
 
 pub use advising::advise;
 pub use annotating::annotate;
+pub use asking::ask;
 pub use counting::blocks;
 pub use directing::direct;
 pub use finding::{Found, find};

@@ -28,7 +28,7 @@ use report::plan_text;
 use std::alloc::Global;
 
 /// Returns the number of the first metric of this name.
-fn metric_number(metrics: &[Metric], name: &[u8]) -> Option<u32>
+pub(crate) fn metric_number(metrics: &[Metric], name: &[u8]) -> Option<u32>
     requires { length metrics.now < 2 ^ 32 }
     ensures { MatchOption result (metric_named metrics.now name.now ≡ None)
         (λ k. (k < length metrics.now) × (slice_get metrics.now k ≡ metric_named metrics.now name.now)) }
@@ -42,7 +42,7 @@ fn metric_number(metrics: &[Metric], name: &[u8]) -> Option<u32>
 }
 
 /// Returns the focus that a text selects.
-fn select(found: &Found, text: &str) -> Result<Focus, Refusal>
+pub(crate) fn select(found: &Found, text: &str) -> Result<Focus, Refusal>
     ensures { Comes result (IsSelected found.now.tree text.now) }
 {
     match found.tree.selected(text.as_bytes()) {

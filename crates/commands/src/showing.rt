@@ -1,9 +1,9 @@
 //! The command `show`.
 
-ghost use Rattle.std.specs.Prelude.{◌≡◌};
+ghost use Rattle.std.specs.Prelude.{◌≡◌, ◌<◌, ◌^◌, IfOk, sum_by};
 ghost use Rattle.command_words.specs.Asked.{asked_show};
 ghost use Rattle.commands.specs.FileReadings.{reads, Looks};
-ghost use Rattle.commands.specs.Showing.{is_ascii, report_view_texts, IsShowDue};
+ghost use Rattle.commands.specs.Showing.{report_view_texts, view_in, IsShowDue};
 ghost use Rattle.refusals.specs.Refusals.{Comes};
 ghost use Rattle.report_reader.specs.Reading.{report_in};
 
@@ -11,19 +11,32 @@ use crate::advising::REPORT_LIMIT;
 use crate::files::read_file;
 use crate::texts::Texts;
 use advice::{ReportError, ReportFault};
-use command_words::{BarStyle, ShowRequest};
+use command_words::{ShowRequest, ViewFormat};
 use outside::Files;
+use pn_types::NoMemory;
 use refusals::{Fault, Refusal};
-use report_reader::read_report;
+use report_reader::{Report, read_report};
 use report_view::report_view;
 use std::alloc::Global;
 
-fn is_ascii(bars: BarStyle) -> bool
-    ensures { result ≡ is_ascii bars }
+/// Returns a report in a format.
+fn view_in(
+    alloc: Global,
+    format: ViewFormat,
+    columns: u32,
+    report: &Report,
+) -> Result<Vec<u8>, NoMemory>
+    requires { sum_by (λ part. part.ticks) report.now.parts.harts < 2 ^ 64 }
+    ensures { IfOk result (λ text. text.items ≡ view_in format columns report.now) }
 {
-    match bars {
-        BarStyle::Ascii => true,
-        BarStyle::Blocks => false,
+    let parts = &report.parts;
+    match format {
+        ViewFormat::Blocks => report_view(alloc, false, columns, parts),
+        ViewFormat::Ascii => report_view(alloc, true, columns, parts),
+        ViewFormat::Json => report_view(alloc, true, columns, parts),
+        ViewFormat::Csv => report_view(alloc, true, columns, parts),
+        ViewFormat::Svg => report_view(alloc, true, columns, parts),
+        ViewFormat::Html => report_view(alloc, true, columns, parts),
     }
 }
 
@@ -33,8 +46,7 @@ fn view(alloc: Global, request: &ShowRequest<'_>, bytes: &[u8]) -> Result<Texts,
 {
     match read_report(alloc, bytes) {
         Ok(report) => {
-            let ascii = is_ascii(request.bars);
-            let text = report_view(alloc, ascii, request.columns, &report.parts)?;
+            let text = view_in(alloc, request.format, request.columns, &report)?;
             Ok(Texts::output(alloc, text))
         }
         Err(ReportError::Fault(ReportFault::BadReport(place))) => {

@@ -9,7 +9,7 @@ use Rattle.advice.specs.declared.verdict.Verdict.{Verdict}
 use Rattle.elf_write.specs.Made.{elf_of}
 use Rattle.code_points.specs.Points.{points_of}
 use Rattle.code_points.specs.Procedures.{procedures_of, skipped_of}
-use Rattle.command_words.specs.Requests.{Request, SessionRequest, RunRequest, LiveRequest, ReplayRequest, PlanRequest, StressRequest, BlocksRequest, VisiRequest, DirectRequest, ProfileRequest, AnnotateRequest, run, live, replay, plan, asm, points, relog, stress, blocks, visi, advise, direct, profile, annotate, show}
+use Rattle.command_words.specs.Requests.{Request, SessionRequest, RunRequest, LiveRequest, ReplayRequest, PlanRequest, StressRequest, BlocksRequest, VisiRequest, DirectRequest, ProfileRequest, AnnotateRequest, AskRequest, run, live, replay, plan, asm, points, relog, stress, blocks, visi, advise, direct, profile, annotate, show, diff, ask}
 use Rattle.directives.proofs.Accepting.{prefixes_after}
 use Rattle.directives.specs.Acts.{applied}
 use Rattle.directives.specs.Applying.{IsAccepted}
@@ -61,7 +61,8 @@ use Rattle.commands.specs.Directing.{AreDirectives, IsDirectDue, IsDirectRun, Is
 use Rattle.commands.specs.Due.{IsDueFor}
 use Rattle.commands.specs.Found.{AreFound, IsFound, resources_of}
 use Rattle.commands.specs.Given.{inputs_with}
-use Rattle.commands.specs.Inputs.{AreInputs, IsElfFile, IsProgramOfFile, IsProgramContent, file_of, or_bad_text, image_of}
+use Rattle.commands.specs.Asking.{IsAsk, IsAskDue, IsAskFor, IsAskOf, shipped_metrics}
+use Rattle.commands.specs.Inputs.{AreInputs, IsElfFile, IsProgramOfFile, MeansConf, IsProgramContent, file_of, or_bad_text, image_of}
 use Rattle.commands.specs.Listing.{IsAsmDue, IsPointsDue}
 use Rattle.commands.specs.Logs.{IsLog, misfit_fault}
 use Rattle.commands.specs.Output.{output}
@@ -82,7 +83,7 @@ use Rattle.headline.proofs.Ranges.{IsRanged}
 use Rattle.headline.proofs.Reports.{IsRunnable, Laws, honest}
 use Rattle.headline.proofs.Runnable.{runnable}
 use Rattle.headline.proofs.Steps.{came, content_of, ok_is, opened}
-use Rattle.headline.proofs.ReportViews.{show_tells}
+use Rattle.headline.proofs.ReportViews.{diff_tells, show_tells}
 use Rattle.report_reader.specs.Laws.{ReportIsSpelled}
 use Rattle.headline.proofs.StressTexts.{program_bytes}
 use Rattle.headline.proofs.Views.{fed_parts}
@@ -342,6 +343,13 @@ module _ (laws : AllLaws) (sees : FileReading) where
         let read = inputs_of sees q.program q.conf a.a (bytes q.program) a.first in
         ((a.a).image, read.holds_program, (a.a).conf, read.holds_conf, f.a, f.first, f.next)
 
+    ask_tells : (q : AskRequest) → IsAskDue q sees (Ok texts) → Tells (Some (ask q)) sees texts
+    ask_tells q due =
+        let p = came (IsProgramOfFile sees q.counted.program) (IsAskOf q) texts due in
+        let c = came (MeansConf shipped_metrics) (IsAskFor q p.a) texts p.next in
+        let f = came (IsFound p.a q.counted.harts c.a) (IsAsk q p.a) texts c.next in
+        (p.a, program_of sees q.counted.program p.a (bytes q.counted.program) p.first, c.a, record { short = omega arith; spelled = c.first }, f.a, f.first, f.next)
+
     file_is : (file : List ℕ) (x : Result (List ℕ) AsmFault) → Ok file ≡ or_bad_text x → x ≡ Ok file
     file_is file (Ok made) e = ap (λ (l : List ℕ). Ok l) (sym (ok_is file made e))
     file_is file (Err fault) e = absurd (cc)
@@ -417,3 +425,5 @@ tells laws sees bytes texts (Some (profile q)) range due = profile_tells laws se
 tells laws sees bytes texts (Some (annotate q)) range due = annotate_tells laws sees bytes texts q due
 tells laws sees bytes texts (Some (advise name)) range due = advise_tells laws sees bytes texts name due
 tells laws sees bytes texts (Some (show q)) range due = show_tells laws.spelled sees texts q due
+tells laws sees bytes texts (Some (diff q)) range due = diff_tells laws.spelled sees texts q due
+tells laws sees bytes texts (Some (ask q)) range due = ask_tells laws sees bytes texts q due

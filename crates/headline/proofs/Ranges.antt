@@ -10,9 +10,9 @@ use Rattle.command_words.proofs.Ranges.{number_is_at_most}
 use Rattle.command_words.specs.Commands.{command_named, form_of}
 use Rattle.command_words.specs.Grammar.{Given, Text, given_in, taken_of}
 use Rattle.command_words.specs.Numbers.{NumberOption, bins_option, budget_option, harts_option, instruments_option, number_between, number_given, quantum_option, columns_option, top_option, views_option, width_option, workers_option}
-use Rattle.command_words.specs.Requests.{Request, SessionRequest, run, live, replay, plan, asm, points, relog, stress, blocks, visi, advise, direct, profile, annotate, show, bars_given, blocks_of, profile_source, shape_given, unit_given, order_of, place_in, request_from, request_of, session_of, settings_of, start_given}
+use Rattle.command_words.specs.Requests.{Request, SessionRequest, run, live, replay, plan, asm, points, relog, stress, blocks, visi, advise, direct, profile, annotate, show, diff, ask, each_given, format_given, interval_given, blocks_of, profile_source, shape_given, unit_given, order_of, place_in, request_from, request_of, session_of, settings_of, start_given}
 use Rattle.command_words.specs.declared.commands.CommandName.{CommandName}
-use Rattle.command_words.specs.declared.commands.CommandName.TheVariants.{Run, Live, Replay, Asm, Points, Plan, Stress, Relog, Blocks, Visi, Advise, Direct, Profile, Annotate, Show}
+use Rattle.command_words.specs.declared.commands.CommandName.TheVariants.{Run, Live, Replay, Asm, Points, Plan, Stress, Relog, Blocks, Visi, Advise, Direct, Profile, Annotate, Show, Diff, Ask}
 
 -- ---- options
 
@@ -99,6 +99,8 @@ IsRanged (direct r) = AreInRange r.session.settings
 IsRanged (profile r) = Unit {0}
 IsRanged (annotate r) = Unit {0}
 IsRanged (show r) = Unit {0}
+IsRanged (diff r) = Unit {0}
+IsRanged (ask r) = Unit {0}
 
 some_is : (q r : Request) → ◌≡◌ {A = Option Request} (Some q) (Some r) → q ≡ r
 some_is q r e = cc
@@ -145,7 +147,14 @@ from_ranged Annotate given q e =
     subst IsRanged m.to tt
 from_ranged Show given q e =
     let s = found (number_given given columns_option) _ q e in
-    let m = mapped (bars_given given) _ q s.then in
+    let m = mapped (format_given given) _ q s.then in
+    subst IsRanged m.to tt
+from_ranged Diff given q e = subst IsRanged (some_is _ q e) tt
+from_ranged Ask given q e =
+    let c = found (blocks_of given) _ q e in
+    let k = found (each_given given) _ q c.then in
+    let i = found (interval_given given) _ q k.then in
+    let m = mapped (number_given given instruments_option) _ q i.then in
     subst IsRanged m.to tt
 
 pub ranged : (words : List Text) (q : Request) → request_of words ≡ Some q → IsRanged q

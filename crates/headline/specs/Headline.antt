@@ -7,8 +7,10 @@ use Rattle.elf_write.specs.Made.{IsMeantAgain, elf_of}
 use Rattle.code_points.specs.Points.{points_of}
 use Rattle.code_points.specs.Procedures.{procedures_of, skipped_of}
 use Rattle.command_words.specs.Requests.{Request, SessionRequest, run, live, replay, visi, direct, stress}
-use Rattle.command_words.specs.Requests.{blocks, profile, annotate, points, plan, asm, relog, advise, show}
+use Rattle.command_words.specs.Requests.{blocks, profile, annotate, points, plan, asm, relog, advise, show, diff, ask}
+use Rattle.commands.specs.Asking.{IsAsk, shipped_metrics}
 use Rattle.commands.specs.Blocks.{AreCounted, pace_of}
+use Rattle.commands.specs.Differing.{diff_of}
 use Rattle.commands.specs.Found.{AreFound}
 use Rattle.commands.specs.Given.{inputs_with}
 use Rattle.commands.specs.Output.{output}
@@ -160,3 +162,11 @@ Tells (Some (advise name)) sees texts =
 -- The file is the text of a report, and that report is shown.
 Tells (Some (show q)) sees texts =
     (bytes : List ℕ) × sees q.report (Ok bytes) × (r : Report) × (report_text r.parts r.skipped ≡ bytes) × (texts ≡ output (view_of q r))
+-- The files are the texts of two reports, and what differs between these is told.
+Tells (Some (diff q)) sees texts =
+    (old new : List ℕ) × sees q.old (Ok old) × sees q.new (Ok new)
+    × (r s : Report) × (report_text r.parts r.skipped ≡ old) × (report_text s.parts s.skipped ≡ new) × (texts ≡ output (diff_of r s))
+-- The wishes are for the shipped metrics, below the focus.
+Tells (Some (ask q)) sees texts =
+    (image : Image) × IsProgramOf sees q.counted.program image × (conf : Conf) × IsConfOf shipped_metrics conf
+    × (found : Found) × AreFound image q.counted.harts conf found × IsAsk q image found (Ok texts)

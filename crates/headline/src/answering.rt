@@ -9,8 +9,8 @@ ghost use Rattle.refusals.specs.Refusals.{Comes};
 
 use command_words::{Request, WordFault, read_request};
 use commands::{
-    Texts, advise, annotate, asm, blocks, direct, live, plan, points, profile, relog, replay, run,
-    show, stress, visi,
+    Texts, advise, annotate, ask, asm, blocks, diff, direct, live, plan, points, profile, relog,
+    replay, run, show, stress, visi,
 };
 use outside::{Files, Gate};
 use refusals::{Fault, Refusal};
@@ -46,6 +46,8 @@ fn answer_request<F: Files, P: Progress>(
         Request::Profile(request) => profile(alloc, request, files),
         Request::Annotate(request) => annotate(alloc, request, files),
         Request::Show(request) => show(alloc, request, files),
+        Request::Diff(request) => diff(alloc, request, files),
+        Request::Ask(request) => ask(alloc, request, files),
     }
 }
 

@@ -13,7 +13,7 @@ use crate::ticker::Ticker;
 use headline::{faults_text, log_name};
 use outside::{DropSink, FileSink, OsFiles, Sink, StdSink};
 use pd_hints::{check, explain, notes};
-use pd_run::{Kind, Screen, Shown, may_write, serve_words};
+use pd_run::{Kind, Screen, Shown, kind_of, may_write, second_kind_of, serve_words};
 use pd_words::{CheckWords, Serving, Wish, read_wish};
 use pn_types::{MAX_HARTS, NoMemory};
 use refusals::Refusal;
@@ -48,24 +48,6 @@ fn refuse(rt: &HostRuntime, why: &str) -> u8 {
     }
 }
 
-/// Returns what kind of file a command's text is.
-fn kind_of(words: &[String]) -> Kind {
-    match words.first() {
-        Some(word) if word.as_str() == "asm" => Kind::Elf,
-        Some(word) if word.as_str() == "relog" => Kind::Log,
-        Some(word) if word.as_str() == "show" => Kind::View,
-        _ => Kind::Report,
-    }
-}
-
-/// Returns what kind of file a command's second text is.
-fn second_kind_of(words: &[String]) -> Kind {
-    match words.first() {
-        Some(word) if word.as_str() == "profile" => Kind::Callgrind,
-        _ => Kind::Log,
-    }
-}
-
 /// Returns whether the file of this name may be written, and says why where it may not.
 fn may_write_to(rt: &HostRuntime, name: &str, kind: Kind, force: bool) -> bool {
     if force || may_write(&mut OsFiles::new(*rt), name, kind) {
@@ -75,6 +57,11 @@ fn may_write_to(rt: &HostRuntime, name: &str, kind: Kind, force: bool) -> bool {
         Kind::Log => "log",
         Kind::Report => "report",
         Kind::View => "report as it is shown",
+        Kind::Json => "report as JSON",
+        Kind::Csv => "report as CSV",
+        Kind::Svg => "picture of a report",
+        Kind::Html => "page of a report",
+        Kind::Configuration => "configuration of wishes",
         Kind::Elf => "ELF file",
         Kind::Callgrind => "callgrind file",
     };
@@ -152,7 +139,7 @@ fn serve<R: Threads + Wait + Sync>(
     {
         return Ok(WRONG);
     }
-    let kind = kind_of(&serving.words);
+    let kind = kind_of(rt.alloc(), &serving.words);
     match &serving.output {
         None => serve_to(rt, threads, serving, StdSink::new(*rt)),
         Some(name) if may_write_to(rt, name, kind, serving.force) => {

@@ -2,7 +2,7 @@
 
 use command_words::{Request, SessionRequest};
 
-/// A metric and a focus of the command line.
+/// Metrics, parted by commas, and a focus of the command line.
 #[derive(Clone, Copy, Drop)]
 pub(crate) struct Pick<'a> {
     pub(crate) metric: &'a str,
@@ -18,8 +18,10 @@ pub(crate) struct Call<'a> {
     pub(crate) conf: Option<&'a str>,
     /// The name of the directives' file.
     pub(crate) directives: Option<&'a str>,
-    /// What `plan` is asked for.
+    /// What `plan` or `ask` is asked for.
     pub(crate) pick: Option<Pick<'a>>,
+    /// Whether the configuration is that of the shipped metrics alone.
+    pub(crate) is_shipped: bool,
     /// The number of harts, where the words tell it.
     pub(crate) harts: Option<u32>,
 }
@@ -32,6 +34,7 @@ impl<'a> Call<'a> {
             conf: None,
             directives: None,
             pick: None,
+            is_shipped: false,
             harts: None,
         }
     }
@@ -72,7 +75,20 @@ impl<'a> Call<'a> {
             Request::Blocks(blocks) => Some(Call::of_program(blocks.program)),
             Request::Profile(profile) => Some(Call::of_program(profile.source.counted.program)),
             Request::Annotate(annotate) => Some(Call::of_program(annotate.source.counted.program)),
-            Request::Relog(_) | Request::Stress(_) | Request::Advise(_) | Request::Show(_) => None,
+            Request::Ask(ask) => Some(Call {
+                pick: Some(Pick {
+                    metric: ask.metrics,
+                    focus: ask.under,
+                }),
+                is_shipped: true,
+                harts: Some(ask.counted.harts),
+                ..Call::of_program(ask.counted.program)
+            }),
+            Request::Relog(_)
+            | Request::Stress(_)
+            | Request::Advise(_)
+            | Request::Show(_)
+            | Request::Diff(_) => None,
         }
     }
 }

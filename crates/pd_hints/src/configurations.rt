@@ -81,6 +81,19 @@ fn add_foci(
     text.push_str("A focus has each hierarchy once at most.\n")
 }
 
+/// Adds a line on each of some metrics, parted by commas, that there isn't.
+fn add_metrics(
+    alloc: Global,
+    text: &mut String,
+    items: &Items<'_>,
+    names: &str,
+) -> Result<(), NoMemory> {
+    for name in names.split(',') {
+        items.add_name(alloc, text, NameKind::Metric, name)?;
+    }
+    Ok(())
+}
+
 /// Adds a line on each name of a line's items, or of the command line, that nothing has.
 fn add_names(
     alloc: Global,
@@ -95,7 +108,7 @@ fn add_names(
         shipped: shipped.items.as_slice(),
     };
     if let (0, Some(Pick { metric, .. })) = (line, call.pick) {
-        return items.add_name(alloc, text, NameKind::Metric, metric);
+        return add_metrics(alloc, text, &items, metric);
     }
     for item in conf.items.as_slice() {
         if line_of(item) == line {

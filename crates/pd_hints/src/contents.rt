@@ -21,6 +21,9 @@ pub(crate) const PROGRAM_LIMIT: u64 = 33_554_432;
 /// The greatest length of a configuration or of directives, in bytes.
 const CONFIGURATION_LIMIT: u64 = 1_048_576;
 
+/// The configuration of the shipped metrics alone.
+const SHIPPED_METRICS: &[u8] = b"include metrics;\n";
+
 /// The bytes of a call's files; none of one that isn't named or can't be read whole.
 #[derive(Drop)]
 pub(crate) struct Contents {
@@ -57,8 +60,11 @@ pub(crate) fn read_contents<F: Files>(
     ensures { OnlyReads F.holds F.faults files.old files.new }
 {
     let program = read_bytes(alloc, files, call.program, PROGRAM_LIMIT)?;
-    let conf = read_bytes(alloc, files, call.conf, CONFIGURATION_LIMIT)?;
+    let mut conf = read_bytes(alloc, files, call.conf, CONFIGURATION_LIMIT)?;
     let directives = read_bytes(alloc, files, call.directives, CONFIGURATION_LIMIT)?;
+    if call.is_shipped {
+        conf = Some(SHIPPED_METRICS.to_vec(alloc)?);
+    }
     Ok(Contents {
         program,
         conf,

@@ -203,6 +203,13 @@ const TOPICS: [Topic; 11] = [
         }],
     },
     Topic {
+        begins: "bad new report at ",
+        meanings: &[Meaning {
+            has: "",
+            says: "The second file isn't what `run`, `live`, `replay` or `direct` prints, or it was changed.\n",
+        }],
+    },
+    Topic {
         begins: "no line table",
         meanings: &[Meaning {
             has: "",

@@ -13,8 +13,18 @@ pub enum Kind {
     Log,
     /// A report.
     Report,
-    /// A report as a person looks at it.
+    /// A report as a person looks at it in a terminal, or what differs between two.
     View,
+    /// A report as JSON.
+    Json,
+    /// A report as comma-separated values.
+    Csv,
+    /// A report as a picture.
+    Svg,
+    /// A report as a page.
+    Html,
+    /// A configuration that asks for metrics.
+    Configuration,
     /// An ELF file.
     Elf,
     /// What callgrind's tools read.
@@ -30,6 +40,11 @@ impl Kind {
             Kind::Log => b"PDYNLOG",
             Kind::Report => b"paradyn report ",
             Kind::View => b"ticks ",
+            Kind::Json => b"{\"format\":\"paradyn report ",
+            Kind::Csv => b"record,number,name,",
+            Kind::Svg => b"<svg ",
+            Kind::Html => b"<!DOCTYPE html>",
+            Kind::Configuration => b"include metrics;",
             Kind::Elf => b"\x7fELF",
             Kind::Callgrind => b"# callgrind format",
         }

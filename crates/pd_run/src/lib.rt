@@ -3,8 +3,10 @@
 
 mod guarding;
 mod held;
+mod kinds;
 mod serving;
 
 pub use guarding::{Kind, may_write};
 pub use held::Held;
+pub use kinds::{kind_of, second_kind_of};
 pub use serving::{Screen, Shown, serve_words};
