@@ -33,6 +33,6 @@ pub use pieces::add_number;
 pub use procedure_row::ProcedureRow;
 pub use profiled_text::ProfiledText;
 pub use reading::{profiled_text as text_with_profile, words_of};
-pub use row_lines::add_row;
-pub use run_lines::ticks_of;
+pub use row_lines::{add_rest, add_row};
+pub use run_lines::{add_run_ticks, add_run_untold, ticks_of};
 pub use table::profile_table;

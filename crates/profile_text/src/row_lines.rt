@@ -16,6 +16,10 @@ use pn_types::NoMemory;
 use std::alloc::Global;
 
 /// Adds the line of a procedure.
+///
+/// # Errors
+///
+/// `NoMemory` where memory runs out.
 pub fn add_row(alloc: Global, out: &mut Vec<u8>, row: &ProcedureRow<'_>) -> Result<(), NoMemory>
     ensures { OnOk result (out.new.items ≡ out.old.items ++ procedure_line (row_of row.now)) }
 {
@@ -59,7 +63,11 @@ pub fn ticks_of_none(text: &ProfiledText<'_>, words: &[NumberedWord]) -> u64
     total(words)
 }
 
-/// Adds the line of the words that no procedure has.
+/// Adds the line of the words that no procedure has: how many there are, and their ticks.
+///
+/// # Errors
+///
+/// `NoMemory` where memory runs out.
 pub fn add_rest(alloc: Global, out: &mut Vec<u8>, words: usize, ticks: u64) -> Result<(), NoMemory>
     ensures { OnOk result (out.new.items ≡ out.old.items ++ rest_line words ticks) }
 {

@@ -72,7 +72,16 @@ pub fn ticks_outside(text: &ProfiledText<'_>) -> usize
 }
 
 /// Adds how many harts there are, and their ticks together.
-fn add_run_ticks(alloc: Global, out: &mut Vec<u8>, harts: usize, ticks: u64) -> Result<(), NoMemory>
+///
+/// # Errors
+///
+/// `NoMemory` where memory runs out.
+pub fn add_run_ticks(
+    alloc: Global,
+    out: &mut Vec<u8>,
+    harts: usize,
+    ticks: u64,
+) -> Result<(), NoMemory>
     ensures { OnOk result (out.new.items ≡ out.old.items ++ run_ticks harts ticks) }
 {
     add_number(alloc, out, b"profile harts ", harts as u64)?;
@@ -80,7 +89,11 @@ fn add_run_ticks(alloc: Global, out: &mut Vec<u8>, harts: usize, ticks: u64) -> 
 }
 
 /// Adds how many of the ticks no number tells, and how many were outside of the text.
-fn add_run_untold(
+///
+/// # Errors
+///
+/// `NoMemory` where memory runs out.
+pub fn add_run_untold(
     alloc: Global,
     out: &mut Vec<u8>,
     untold: u64,

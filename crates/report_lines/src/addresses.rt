@@ -49,7 +49,7 @@ fn hexadecimal(digits: &[u8]) -> Option<u64>
 }
 
 /// Returns the address at a place of a line, which has `0x` before its digits, or 0.
-pub(crate) fn address_at(place: usize, line: &[u8]) -> u64
+pub fn address_at(place: usize, line: &[u8]) -> u64
     ensures { result ≡ address_at place line.now }
 {
     hexadecimal(bytes_behind(2, word_at(place, line))).unwrap_or(0)

@@ -9,6 +9,7 @@ mod lines;
 mod nodes;
 mod words;
 
+pub use addresses::address_at;
 pub use histograms::{bins_of_line, histogram_of_line};
 pub use laws::{bin_is_read, hart_is_read, histogram_is_read, node_is_read, refused_is_read};
 pub use lines::{bin_of_line, hart_of_line, refused_of_line};
