@@ -3,8 +3,8 @@
 
     tools/compare.py --command NAME [--from SEED] [--count N] [--paradyn PATH] [--all]
 
-NAME is a command of the program: run, replay, relog, live, visi, direct, advise, show, blocks, profile, annotate, points, plan,
-asm or stress.
+NAME is a command of the program: run, replay, relog, live, visi, direct, advise, show, diff, blocks, profile, annotate, ask, points,
+plan, asm or stress.
 A case is made from its seed (`reference/cases`): files, and the words of a call. Compared are the status, the output,
 and the log where one is left. Under `live` which order the harts take isn't told: the log has to be one that such
 workers can leave, and the report is compared with that of the reference along the log, and so is the program's own
@@ -32,8 +32,8 @@ from cases import limits  # noqa: E402
 from cases.calls import Case  # noqa: E402
 from paradyn import command_words, commands, quanta_log  # noqa: E402
 
-NAMES = ["run", "replay", "relog", "live", "visi", "direct", "advise", "show", "blocks", "profile", "annotate", "points",
-         "plan", "asm", "stress", "limits"]
+NAMES = ["run", "replay", "relog", "live", "visi", "direct", "advise", "show", "diff", "blocks", "profile", "annotate", "ask",
+         "points", "plan", "asm", "stress", "limits"]
 SECONDS = 300
 
 

@@ -26,8 +26,9 @@ FIRST = int(sys.argv[3]) if len(sys.argv) > 3 else 0
 PARADYN = sys.argv[4] if len(sys.argv) > 4 else str(TOP / "crates/paradyn/out/paradyn")
 SECONDS = 20
 LIMITS = ["--budget", "20000", "--width", "500"]
-STATUSES = {0, 2, 3, 4, 5, 6, 7, 8, 9, 11, 12, 13}
-COMMANDS = ["run", "live", "replay", "asm", "points", "plan", "stress", "relog", "blocks", "visi", "advise", "direct", "", "0"]
+STATUSES = {0, 2, 3, 4, 5, 6, 7, 8, 9, 11, 12, 13, 14, 15}
+COMMANDS = ["run", "live", "replay", "asm", "points", "plan", "stress", "relog", "blocks", "visi", "advise", "direct", "profile", "annotate",
+            "show", "diff", "ask", "", "0"]
 # Bytes that end a range of some number, or a text.
 ENDS = bytes([0x00, 0x01, 0x7F, 0x80, 0xFF, 0x0A, 0x20, 0x22, 0x7B, 0x7D])
 
@@ -95,6 +96,9 @@ def with_program(draw, folder, log):
         ["visi", program, conf, *order, *LIMITS],
         ["direct", program, conf, directives, *order, *LIMITS],
         ["blocks", program, *order, "--budget", "20000"],
+        ["profile", program, *order, "--budget", "20000"],
+        ["annotate", program, *order, "--budget", "20000"],
+        ["ask", program, "cpu", "--each", "procedure", *order, "--budget", "20000"],
         ["live", program, conf, "--workers", "2", *LIMITS],
         ["points", program],
         ["asm", program],
@@ -137,10 +141,12 @@ def with_directives(draw, folder, log):
 
 
 def with_report(draw, folder, log):
-    """The run of a mutated report."""
-    report = folder / "r"
+    """The runs of a mutated report."""
+    report, other = folder / "r", folder / "s"
     report.write_bytes(mutated(draw, draw.choice(REPORTS)))
-    return [["advise", report]]
+    other.write_bytes(draw.choice(REPORTS))
+    form = draw.choice(["blocks", "ascii", "json", "csv", "svg", "html"])
+    return [["advise", report], ["show", report, "--format", form], ["diff", report, other], ["diff", other, report]]
 
 
 def with_words(draw, folder, log):

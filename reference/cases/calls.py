@@ -15,12 +15,13 @@ VALUES = {
     "seed": [0, 1, 7, 99, 1000, 4294967295], "instruments": [1, 2, 4, 8, 64, 1024], "start": ["cold", "warm"],
     "workers": [1, 2, 3, 4, 5, 16], "views": [1, 2, 3, 8], "show": ["lines", "words", "words", "table"],
     "by": ["words", "words", "lines"],
-    "top": [1, 2, 3, 20, 1000000], "columns": [20, 21, 40, 80, 1000], "bars": ["blocks", "ascii"],
+    "top": [1, 2, 3, 20, 1000000], "columns": [20, 21, 40, 80, 1000], "format": ["blocks", "ascii", "json", "csv", "svg", "html"],
+    "each": ["procedure", "procedure", "module", "lock", "hart"], "from": [0, 0, 1, 50, 1000], "until": [1, 51, 200, 2147483647],
 }
 SEARCH = b"include hypotheses;\nsearch { window %d; cost 1000; observed 1000000; }\n"
 # how often an option is given; those of which the default would be slow always are
 GIVEN = {"instruments": 0.2, "start": 0.25, "seed": 0.6, "workers": 0.7, "views": 0.8, "bins": 0.8, "quantum": 0.9, "show": 0.8, "top": 0.5, "by": 0.5,
-         "columns": 0.6, "bars": 0.5}
+         "columns": 0.6, "format": 0.8, "each": 0.8, "from": 0.3, "until": 0.3, "under": 0.5}
 STRAY_WORDS = ["--", "-", "--harts", "--log", "--log=", "--start=cold", "-h", "more", "--harts=2"]
 ALSO = ["0x10004", "0x10008,0x10010", "0x1000C", "0x10000,0x10000", "0x1", "0xffffffffffffffff", "0x0000000000000010014"]
 BAD_VALUES = ["0x", "0x10000,", "0x10000000000000000", "10004", "0", "-", "-1", "x", "", "00000000001", "4294967296", "10001", "100000001", "33", "hot", "1e3"]
@@ -174,7 +175,27 @@ class Case:
     def show(self):
         text = self.reported().out
         self.put("r", text if self.draw.random() < 0.5 else changed_report(self.draw, text))
-        self.call(["r" if self.draw.random() < 0.98 else "absent"], ("columns", "bars"))
+        self.call(["r" if self.draw.random() < 0.98 else "absent"], ("columns", "format"))
+
+    def diff(self):
+        first = self.reported().out
+        files = dict(self.files)
+        kind = self.draw.random()
+        if kind < 0.7 and "p" in files and "c" in files:
+            command, self.command = self.command, "run"
+            second = self.execute(self.call(["p", "c"], self.RUN)).out
+            self.command, self.calls = command, []
+        else:
+            second = first if kind < 0.8 else self.reported().out
+        for name, text in ("r", first), ("t", second):
+            self.put(name, text if self.draw.random() < 0.8 else changed_report(self.draw, text))
+        self.call(["r" if self.draw.random() < 0.98 else "absent", "t" if self.draw.random() < 0.98 else "absent"])
+
+    def ask(self):
+        draw = self.draw
+        metrics = ",".join(draw.choice(SHIPPED_METRICS if draw.random() < 0.97 else ["nothing", ""]) for _ in range(draw.choice([1, 1, 2, 3])))
+        under = [["--under", draw.choice(FOCI)]] if draw.random() < 0.6 else []
+        self.call([self.program_name(), metrics], ("harts", "seed", "quantum", "budget", "instruments", "each", "from", "until"), under)
 
     def blocks(self):
         self.call([self.program_name()], ("harts", "seed", "quantum", "budget"))

@@ -17,14 +17,20 @@ COMMANDS = {
     "direct": (3, RUN),
     "profile": (1, ["harts", "seed", "quantum", "budget", "also", "show", "top", "callgrind"]),
     "annotate": (1, ["harts", "seed", "quantum", "budget", "also", "procedure", "by"]),
-    "show": (1, ["columns", "bars"]),
+    "show": (1, ["columns", "format"]),
+    "diff": (2, []),
+    "ask": (2, ["harts", "seed", "quantum", "budget", "instruments", "each", "under", "from", "until"]),
 }
 # options whose value is a name, and is taken as it is
-NAMES = ("log", "callgrind", "procedure")
+NAMES = ("log", "callgrind", "procedure", "under")
+FORMATS = ("blocks", "ascii", "json", "csv", "svg", "html")
+KINDS = ("procedure", "module", "lock", "hart")
+LAST_TICK = 2147483647
 # least, most and default
 LIMITS = {"harts": (1, 32, 1), "workers": (1, 16, 2), "seed": (0, 4294967295, 0), "quantum": (1, 10000, 50),
           "budget": (1, 100000000, 1000000), "bins": (2, 1024, 64), "width": (1, 1000000, 1000),
-          "instruments": (1, 1024, 64), "views": (1, 8, 2), "top": (1, 1000000, 20), "columns": (20, 1000, 80)}
+          "instruments": (1, 1024, 64), "views": (1, 8, 2), "top": (1, 1000000, 20), "columns": (20, 1000, 80),
+          "from": (0, LAST_TICK, 0)}
 
 
 def number(text, low, high):
@@ -80,13 +86,24 @@ def value_of(name, given):
     if name == "by":
         unit = given.get(name, "words")
         return unit if unit in ("words", "lines") else None
-    if name == "bars":
-        style = given.get(name, "blocks")
-        return style if style in ("blocks", "ascii") else None
+    if name == "format":
+        form = given.get(name, "blocks")
+        return form if form in FORMATS else None
     if name == "also":
         return addresses(given[name]) if name in given else []
     low, high, default = LIMITS[name]
     return number(given[name], low, high) if name in given else default
+
+
+def interval(out, given):
+    """Whether `ask` is given a kind and a last tick that are such. These and the focus are put into what its words ask for."""
+    out["each"], out["until"], out["under"] = given.get("each"), None, given.get("under", "/Code")
+    if out["each"] not in (None,) + KINDS:
+        return False
+    if "until" in given:
+        out["until"] = number(given["until"], out["from"] + 1, LAST_TICK)
+        return out["until"] is not None
+    return True
 
 
 def parse(words):
@@ -102,9 +119,13 @@ def parse(words):
     positional, given = parts
     out = {"command": words[0], "positional": positional}
     for name in known:
+        if name in ("each", "until"):
+            continue
         out[name] = given.get(name) if name in NAMES else value_of(name, given)
         if name not in NAMES and out[name] is None:
             return None
+    if words[0] == "ask" and not interval(out, given):
+        return None
     if words[0] == "stress":
         out["n"] = number(positional[0], 1, 200)
         out["seed_word"] = number(positional[1], 0, 4294967295)

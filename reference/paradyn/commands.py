@@ -1,5 +1,5 @@
 """What each command prints, and the status with which it ends."""
-from . import advice, assembly, basic_blocks, command_words, configuration, directives, elf_reading, elf_writing
+from . import advice, asking, assembly, basic_blocks, command_words, configuration, directives, elf_reading, elf_writing
 from . import line_table, plans, points, profile, quanta_log, report, report_reading, resources, shipped, show, stress, tokens
 from .checking import CheckFault, check
 from .session import BadPick, Session
@@ -262,12 +262,31 @@ class Call:
         except advice.BadReport as f:
             raise Refusal(13, b"paradyn: bad report at %d\n" % f.place) from None
 
-    def show(self, w):
+    def report(self, name, what=b"report"):
         try:
-            report = report_reading.read_report(self.read(w["positional"][0]))
+            return report_reading.read_report(self.read(name))
         except advice.BadReport as f:
-            raise Refusal(13, b"paradyn: bad report at %d\n" % f.place) from None
-        return Result(0, show.show(report, w["columns"], w["bars"]))
+            raise Refusal(13, b"paradyn: bad %s at %d\n" % (what, f.place)) from None
+
+    def show(self, w):
+        return Result(0, FORMATS[w["format"]](self.report(w["positional"][0]), w["columns"]))
+
+    def diff(self, w):
+        old = self.report(w["positional"][0])
+        return Result(0, diff.diff(old, self.report(w["positional"][1], b"new report")))
+
+    def ask(self, w):
+        name, metrics = w["positional"]
+        program, names = Program(load_program(self.read(name))), [x.encode("utf-8", "surrogateescape") for x in metrics.split(",")]
+        checked, tree = program.check(parse_configuration(asking.SHIPPED), w["harts"])
+        if any(all(m.name != x for m in checked.metrics) for x in names):
+            raise bad_configuration(0, 0, tokens.UNKNOWN_NAME)
+        try:
+            focus = tree.focus(w["under"].encode("utf-8", "surrogateescape"))
+        except resources.FocusFault:
+            raise bad_configuration(0, 0, tokens.BAD_FOCUS) from None
+        rows = self.profiled(program, dict(w, also=[])).rows() if w["each"] in ("procedure", "module") else []
+        return Result(0, asking.text(w, names, asking.foci(w["each"], tree, focus, rows)))
 
 
 def execute(words, read, watch=None):

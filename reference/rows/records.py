@@ -19,7 +19,10 @@ REQUESTS = {
     "stress": "stress procs {n} seed {seed_word}",
     "blocks": "blocks [{0}] harts {harts} budget {budget} seed {seed} quantum {quantum}",
     "profile": "profile [{0}] harts {harts} budget {budget} seed {seed} quantum {quantum} also {also} show {show} top {top}",
-    "show": "show [{0}] columns {columns} bars {bars}",
+    "show": "show [{0}] columns {columns} format {format}",
+    "diff": "diff [{0}] [{1}]",
+    "ask": "ask [{0}] [{1}] harts {harts} budget {budget} seed {seed} quantum {quantum} each {each} under [{under}] from {from} until {until} "
+           "instruments {instruments}",
     "annotate": "annotate [{0}] harts {harts} budget {budget} seed {seed} quantum {quantum} also {also} by {by}",
     "visi": "visi [{0}] [{1}] " + SETTINGS + " seed {seed} quantum {quantum} views {views}",
     "direct": "direct [{0}] [{1}] [{2}] " + SETTINGS + " seed {seed} quantum {quantum}",

@@ -3,9 +3,10 @@
 
 use crate::starts::start_text;
 use command_words::{
-    AnnotateRequest, AnnotationUnit, BarStyle, BlocksRequest, DirectRequest, LiveRequest,
-    PlanRequest, ProfileRequest, ProfileShape, ProfileSource, ReplayRequest, Request, RunRequest,
-    ShowRequest, StressRequest, VisiRequest, WordFault, addresses, log_name, read_request,
+    AnnotateRequest, AnnotationUnit, AskRequest, BlocksRequest, DiffRequest, DirectRequest,
+    LiveRequest, NodeKind, PlanRequest, ProfileRequest, ProfileShape, ProfileSource, ReplayRequest,
+    Request, RunRequest, ShowRequest, StressRequest, ViewFormat, VisiRequest, WordFault, addresses,
+    log_name, read_request,
 };
 use pn_types::{NoMemory, Settings};
 use std::alloc::Global;
@@ -131,11 +132,56 @@ fn annotate_text(alloc: Global, annotate: &AnnotateRequest<'_>) -> Result<String
 fn show_text(alloc: Global, show: &ShowRequest<'_>) -> Result<String, NoMemory> {
     let report = show.report;
     let columns = show.columns;
-    let bars = match show.bars {
-        BarStyle::Blocks => "blocks",
-        BarStyle::Ascii => "ascii",
+    let format = match show.format {
+        ViewFormat::Blocks => "blocks",
+        ViewFormat::Ascii => "ascii",
+        ViewFormat::Json => "json",
+        ViewFormat::Csv => "csv",
+        ViewFormat::Svg => "svg",
+        ViewFormat::Html => "html",
     };
-    format!(in alloc; "show [{report}] columns {columns} bars {bars}")
+    format!(in alloc; "show [{report}] columns {columns} format {format}")
+}
+
+/// What `diff` is asked for.
+fn diff_text(alloc: Global, diff: &DiffRequest<'_>) -> Result<String, NoMemory> {
+    let old = diff.old;
+    let new = diff.new;
+    format!(in alloc; "diff [{old}] [{new}]")
+}
+
+/// The nodes that `ask` is asked for.
+fn kind_text(kind: Option<NodeKind>) -> &'static str {
+    match kind {
+        None => "None",
+        Some(NodeKind::Procedure) => "procedure",
+        Some(NodeKind::Module) => "module",
+        Some(NodeKind::Lock) => "lock",
+        Some(NodeKind::Hart) => "hart",
+    }
+}
+
+/// What `ask` is asked for.
+fn ask_text(alloc: Global, ask: &AskRequest<'_>) -> Result<String, NoMemory> {
+    let program = ask.counted.program;
+    let metrics = ask.metrics;
+    let harts = ask.counted.harts;
+    let budget = ask.counted.budget;
+    let seed = ask.counted.order.seed;
+    let quantum = ask.counted.order.quantum;
+    let each = kind_text(ask.each);
+    let under = ask.under;
+    let from = ask.interval.from;
+    let limit = ask.limit;
+    let files = format!(in alloc; "ask [{program}] [{metrics}]")?;
+    let run = format!(in alloc; "harts {harts} budget {budget} seed {seed} quantum {quantum}")?;
+    let below = format!(in alloc; "each {each} under [{under}] from {from}")?;
+    match ask.interval.until {
+        Some(until) => {
+            format!(in alloc; "{files} {run} {below} until {until} instruments {limit}")
+        }
+        None => format!(in alloc; "{files} {run} {below} until None instruments {limit}"),
+    }
 }
 
 /// What `visi` is asked for.
@@ -177,6 +223,8 @@ fn request_text(alloc: Global, words: &[String]) -> Result<String, NoMemory> {
         Ok(Request::Profile(profile)) => profile_text(alloc, &profile),
         Ok(Request::Annotate(annotate)) => annotate_text(alloc, &annotate),
         Ok(Request::Show(show)) => show_text(alloc, &show),
+        Ok(Request::Diff(diff)) => diff_text(alloc, &diff),
+        Ok(Request::Ask(ask)) => ask_text(alloc, &ask),
         Ok(Request::Visi(visi)) => visi_text(alloc, &visi),
         Ok(Request::Advise(report)) => format!(in alloc; "advise [{report}]"),
         Ok(Request::Direct(direct)) => direct_text(alloc, &direct),
