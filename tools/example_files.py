@@ -22,7 +22,14 @@ from rows import calls  # noqa: E402
 STDIN = TOP / "crates/test_top/stdin"
 STDOUT = TOP / "crates/test_top/stdout"
 # Files that a shown command makes, each with the words of the row that prints what it has.
-MADE = {b"words.report": b"run words.elf search.conf --harts 4 --width 2000"}
+MADE = {
+    b"words.report": b"run words.elf search.conf --harts 4 --width 2000",
+    b"words3.report": b"run words3.elf search.conf --harts 4 --width 2000",
+    b"words.profile": b"profile words.elf --harts 4",
+    b"words3.profile": b"profile words3.elf --harts 4",
+    b"waits.conf": b"ask words.elf sync_wait --each procedure --harts 4 --instruments 6",
+    b"waits.report": b"run words.elf waits.conf --harts 4 --width 20000",
+}
 FOLDERS = [TOP / "examples", TOP / "examples/words", TOP / "examples/recipes"]
 # The lines that give a file.
 FILE = re.compile(rb"^file (.*)\n(?:(?:\||hex |fill |cut |byte ).*\n)*", re.M)

@@ -16,14 +16,22 @@ STDOUT = TOP / "crates/test_top/stdout"
 ENDED = rb"\nExitCode\(unix_exit_status\((\d+)\)\)"
 
 
+STANDS_FOR = {"--table": "--show table", "--words": "--show words", "--source": "--by lines", "--ascii": "--format ascii",
+              "--json": "--format json", "--csv": "--format csv"}
+FILES = {"-o": "", "--svg": "--format svg", "--html": "--format html"}
+
+
 def served(words):
-    """The words of `paradyn` for these of `pd`."""
-    out = []
+    """The words of `paradyn` for these of `pd`, and the file that takes what is printed, if one does."""
+    out, file = [], None
+    words = iter(words)
     for word in words:
-        if words[0] == "annotate" and len(out) == 2 and not word.startswith("-"):
+        if out[:1] == ["annotate"] and len(out) == 2 and not word.startswith("-"):
             out.append("--procedure")
-        out.append({"--table": "--show table", "--words": "--show words", "--source": "--by lines"}.get(word, word))
-    return " ".join(out)
+        if word in FILES:
+            file = next(words)
+        out.append(FILES.get(word, STANDS_FOR.get(word, word)))
+    return " ".join(word for word in out if word), file
 
 
 def row_of(words, rows):
@@ -36,12 +44,15 @@ def row_of(words, rows):
 
 
 def main():
-    words = served(sys.argv[1:])
+    words, file = served(sys.argv[1:])
     row = row_of(words.encode(), STDOUT.read_bytes())
     if row is None:
         print(f"no row has the words {words}", file=sys.stderr)
         return 1
-    sys.stdout.buffer.write(row[1])
+    if file is None:
+        sys.stdout.buffer.write(row[1])
+    else:
+        pathlib.Path(file).write_bytes(row[1])
     return row[0]
 
 

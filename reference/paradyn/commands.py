@@ -6,6 +6,10 @@ from .session import BadPick, Session
 from .turn_order import by_workers, seeded
 
 CONFIGURATION_MOST, LOG_MOST = 1048576, 268435496
+FORMATS = {
+    "blocks": lambda report, columns: show.show(report, columns, "blocks"),
+    "ascii": lambda report, columns: show.show(report, columns, "ascii"),
+}
 
 
 class Refusal(Exception):

@@ -33,7 +33,6 @@ use Rattle.refusals.specs.declared.program.ProgramFault.TheVariants.{TooLong}
 use Rattle.refusals.specs.declared.fault.Fault.{Fault}
 use Rattle.refusals.specs.declared.fault.Fault.TheVariants.{Usage, BadProgram, BadConf, BadLog, BadDirectives, BadReport, BadNewReport}
 use Rattle.report_reader.specs.Reading.{report_in}
-use Rattle.report_reader.specs.declared.whole_report.Report.{Report}
 use Rattle.resource_tree.specs.Foci.{OneSelection, canonical}
 use Rattle.resource_tree.specs.Resources.{Resources}
 use Rattle.session_spec.specs.Inputs.{Inputs as SessionInputs}
@@ -42,7 +41,7 @@ use Rattle.session_spec.specs.declared.data.RefusedWish.{RefusedWish}
 use Rattle.whole_run.specs.Replayed.{misfit_of}
 use Rattle.whole_run.specs.Seeded.{OneSeeded}
 use Rattle.commands.specs.Advising.{advice_texts, IsAdviseDue, IsReportContent}
-use Rattle.commands.specs.Differing.{IsDiffDue, IsReportOfFile, diff_of, or_bad}
+use Rattle.commands.specs.Differing.{IsComparedFile, IsDiffDue, compared_in, diff_of}
 use Rattle.commands.specs.Showing.{report_view_texts, IsShowDue}
 use Rattle.commands.specs.Asking.{IsAsk, IsAskAt, IsAskDue, IsAskFor, IsAskOf, known, shipped_metrics}
 use Rattle.commands.specs.Output.{output}
@@ -61,6 +60,7 @@ use Rattle.commands.specs.Due.{AreLike, AreOne, IsDue, IsDueFor, is_live}
 use Rattle.commands.specs.FileReadings.{FileReading, limited, IsContent}
 use Rattle.commands.specs.declared.advising.TheConstants.{REPORT_LIMIT}
 use Rattle.commands.specs.declared.configuration.TheConstants.{CONFIGURATION_LIMIT}
+use Rattle.commands.specs.declared.differing.Compared.{Compared}
 use Rattle.commands.specs.declared.directing.TheConstants.{DIRECTIVES_LIMIT}
 use Rattle.commands.specs.declared.finding.Found.{Found}
 use Rattle.commands.specs.declared.inputs.Inputs.{Inputs}
@@ -286,16 +286,16 @@ module _ (laws : Laws) where
         one_then (IsReportContent sees q.report) (λ bytes texts. texts ≡ report_view_texts q (report_in bytes)) (content_once REPORT_LIMIT (BadReport REPORT_LIMIT) q.report)
         (λ bytes. equal_once (report_view_texts q (report_in bytes)))
 
-    report_once : (bad : ℕ → Fault) (name : List ℕ) → IsOne (IsReportOfFile bad sees name)
-    report_once bad name =
-        one_then (IsContent sees REPORT_LIMIT (bad REPORT_LIMIT) name) (λ bytes report. report ≡ or_bad bad (report_in bytes)) (content_once REPORT_LIMIT (bad REPORT_LIMIT) name)
-        (λ bytes. equal_once (or_bad bad (report_in bytes)))
+    compared_once : (bad : ℕ → Fault) (name : List ℕ) → IsOne (IsComparedFile bad sees name)
+    compared_once bad name =
+        one_then (IsContent sees REPORT_LIMIT (bad REPORT_LIMIT) name) (λ bytes compared. compared ≡ compared_in bad bytes) (content_once REPORT_LIMIT (bad REPORT_LIMIT) name)
+        (λ bytes. equal_once (compared_in bad bytes))
 
     diff_due_once : (q : DiffRequest) → IsOne (IsDiffDue q sees)
     diff_due_once q =
-        let ended : Report → Report → Step Texts = λ old new texts. texts ≡ Ok (output (diff_of old new)) in
-        one_then (IsReportOfFile BadReport sees q.old) (λ old. Then (IsReportOfFile BadNewReport sees q.new) (ended old)) (report_once BadReport q.old)
-        (λ old. one_then (IsReportOfFile BadNewReport sees q.new) (ended old) (report_once BadNewReport q.new) (λ new. equal_once (Ok (output (diff_of old new)))))
+        let ended : Compared → Compared → Step Texts = λ old new texts. texts ≡ diff_of old new in
+        one_then (IsComparedFile BadReport sees q.old) (λ old. Then (IsComparedFile BadNewReport sees q.new) (ended old)) (compared_once BadReport q.old)
+        (λ old. one_then (IsComparedFile BadNewReport sees q.new) (ended old) (compared_once BadNewReport q.new) (λ new. equal_once (diff_of old new)))
 
     directions_once : (name : List ℕ) → IsOne (AreDirectives sees name)
     directions_once name =

@@ -48,10 +48,13 @@ use Rattle.whole_run.specs.Replayed.{misfit_of}
 use Rattle.whole_run.specs.declared.misfit.Misfit.{Misfit}
 use Rattle.whole_run.specs.declared.misfit.Misfit.TheVariants as misfit
 use Rattle.commands.specs.Given.{inputs_with}
+use Rattle.profile_reader.specs.Reading.{profile_in}
+use Rattle.profile_reader.specs.declared.read_profile.ReadProfile.{ReadProfile}
+use Rattle.report_diff.specs.Diff.{diff_text}
 use Rattle.report_reader.specs.Reading.{report_in}
 use Rattle.report_reader.specs.declared.whole_report.Report.{Report}
 use Rattle.commands.specs.Asking.{IsAsk, IsAskAt, IsAskDue, IsAskFor, IsAskOf, known, shipped_metrics}
-use Rattle.commands.specs.Differing.{IsDiffDue, IsReportOfFile, diff_of, or_bad}
+use Rattle.commands.specs.Differing.{IsComparedFile, IsDiffDue, are_alike, begins_profile, compared_in, diff_of, of_profile, of_report}
 use Rattle.commands.specs.Showing.{report_view_texts, IsShowDue}
 use Rattle.commands.specs.Advising.{advice_texts, IsAdviseDue, IsReportContent}
 use Rattle.commands.specs.Output.{output}
@@ -68,6 +71,7 @@ use Rattle.commands.specs.Plans.{metric_named, or_unknown, or_bad_focus, IsSelec
 use Rattle.commands.specs.FileReadings.{FileReading, reads, limited, IsContent}
 use Rattle.commands.specs.declared.advising.TheConstants.{REPORT_LIMIT}
 use Rattle.commands.specs.declared.configuration.TheConstants.{CONFIGURATION_LIMIT}
+use Rattle.commands.specs.declared.differing.Compared.{Compared}
 use Rattle.commands.specs.declared.directing.TheConstants.{DIRECTIVES_LIMIT}
 use Rattle.commands.specs.declared.finding.Found.{Found}
 use Rattle.commands.specs.declared.inputs.Inputs.{Inputs}
@@ -174,9 +178,21 @@ view_spared : (q : ShowRequest) (r : Result Report ReportFault) → Spares (repo
 view_spared q (Ok report) = tt
 view_spared q (Err (report_fault.BadReport place)) = tt
 
-or_bad_spared : (bad : ℕ → Fault) → ((place : ℕ) → NotFile (bad place)) → (r : Result Report ReportFault) → Spares (or_bad bad r)
-or_bad_spared bad spare (Ok report) = tt
-or_bad_spared bad spare (Err (report_fault.BadReport place)) = spare place
+of_report_spared : (bad : ℕ → Fault) → ((place : ℕ) → NotFile (bad place)) → (r : Result Report ReportFault) → Spares (of_report bad r)
+of_report_spared bad spare (Ok report) = tt
+of_report_spared bad spare (Err (report_fault.BadReport place)) = spare place
+
+of_profile_spared : (bad : ℕ → Fault) → ((place : ℕ) → NotFile (bad place)) → (r : Result ReadProfile ReportFault) → Spares (of_profile bad r)
+of_profile_spared bad spare (Ok profile) = tt
+of_profile_spared bad spare (Err (report_fault.BadReport place)) = spare place
+
+compared_spared : (bad : ℕ → Fault) → ((place : ℕ) → NotFile (bad place)) → (bytes : List ℕ) → Spares (compared_in bad bytes)
+compared_spared bad spare bytes =
+    if_spared (begins_profile bytes) (of_profile bad (profile_in bytes)) (of_report bad (report_in bytes))
+    (of_profile_spared bad spare (profile_in bytes)) (of_report_spared bad spare (report_in bytes))
+
+diff_spared : (old new : Compared) → Spares (diff_of old new)
+diff_spared old new = if_spared (are_alike old new) (Ok (output (diff_text old.parts new.parts))) (Err (BadNewReport 0)) tt tt
 
 ask_spared : (q : AskRequest) (image : Image) (found : Found) (name : List ℕ) → IsAsk q image found (Err (FileFault name)) → ⊥
 ask_spared q image found name =
@@ -279,18 +295,19 @@ module _ (name : List ℕ) (P : Type 0) (sees : FileReading) (at_file : (other :
       of_either P (IsReportContent sees q.report) (λ bytes texts. texts ≡ report_view_texts q (report_in bytes)) (FileFault name) (at_content name P sees at_file REPORT_LIMIT (BadReport REPORT_LIMIT) q.report tt)
       (λ bytes e. absurd (spared (report_view_texts q (report_in bytes)) name (view_spared q (report_in bytes)) e))
 
-  at_report : (bad : ℕ → Fault) → ((place : ℕ) → NotFile (bad place)) → (other : List ℕ) → IsReportOfFile bad sees other (Err (FileFault name)) → P
-  at_report bad spare other =
-      of_either P (IsContent sees REPORT_LIMIT (bad REPORT_LIMIT) other) (λ bytes report. report ≡ or_bad bad (report_in bytes)) (FileFault name)
+  at_compared : (bad : ℕ → Fault) → ((place : ℕ) → NotFile (bad place)) → (other : List ℕ) → IsComparedFile bad sees other (Err (FileFault name)) → P
+  at_compared bad spare other =
+      of_either P (IsContent sees REPORT_LIMIT (bad REPORT_LIMIT) other) (λ bytes compared. compared ≡ compared_in bad bytes) (FileFault name)
       (at_content name P sees at_file REPORT_LIMIT (bad REPORT_LIMIT) other (spare REPORT_LIMIT))
-      (λ bytes e. absurd (spared (or_bad bad (report_in bytes)) name (or_bad_spared bad spare (report_in bytes)) e))
+      (λ bytes e. absurd (spared (compared_in bad bytes) name (compared_spared bad spare bytes) e))
 
   at_diff : (q : DiffRequest) → IsDiffDue q sees (Err (FileFault name)) → P
   at_diff q =
-      let ended : Report → Report → Result Texts Fault → Type 0 = λ old new texts. texts ≡ Ok (output (diff_of old new)) in
-      of_either P (IsReportOfFile BadReport sees q.old) (λ old. Then (IsReportOfFile BadNewReport sees q.new) (ended old)) (FileFault name)
-      (at_report BadReport (λ place. tt) q.old)
-      (λ old. of_either P (IsReportOfFile BadNewReport sees q.new) (ended old) (FileFault name) (at_report BadNewReport (λ place. tt) q.new) (λ new e. absurd (cc)))
+      let ended : Compared → Compared → Result Texts Fault → Type 0 = λ old new texts. texts ≡ diff_of old new in
+      of_either P (IsComparedFile BadReport sees q.old) (λ old. Then (IsComparedFile BadNewReport sees q.new) (ended old)) (FileFault name)
+      (at_compared BadReport (λ place. tt) q.old)
+      (λ old. of_either P (IsComparedFile BadNewReport sees q.new) (ended old) (FileFault name) (at_compared BadNewReport (λ place. tt) q.new)
+      (λ new e. absurd (spared (diff_of old new) name (diff_spared old new) e)))
 
   at_ask : (q : AskRequest) → IsAskDue q sees (Err (FileFault name)) → P
   at_ask q =

@@ -7,6 +7,7 @@ use Rattle.refusals.specs.declared.fault.Fault.TheVariants.{Usage}
 use Rattle.commands.specs.Advising.{IsAdviseDue}
 use Rattle.commands.specs.Asking.{IsAskDue}
 use Rattle.commands.specs.Blocks.{IsBlocksDue}
+use Rattle.commands.specs.Differing.{IsDiffDue}
 use Rattle.commands.specs.Directing.{IsDirectDue}
 use Rattle.commands.specs.Listing.{IsPointsDue, IsAsmDue}
 use Rattle.commands.specs.Plans.{IsPlanDue}
@@ -35,7 +36,7 @@ IsDueFor (Some (direct r)) sees texts = IsDirectDue r sees texts
 IsDueFor (Some (profile r)) sees texts = IsProfileDue r sees texts
 IsDueFor (Some (annotate r)) sees texts = IsAnnotateDue r sees texts
 IsDueFor (Some (show r)) sees texts = IsShowDue r sees texts
-IsDueFor (Some (diff r)) sees texts = ⊥
+IsDueFor (Some (diff r)) sees texts = IsDiffDue r sees texts
 IsDueFor (Some (ask r)) sees texts = IsAskDue r sees texts
 
 -- What is due for words and what was seen of files: the texts that were asked for, or the first fault.

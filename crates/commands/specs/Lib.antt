@@ -12,6 +12,8 @@ pub mod Blocks
 pub mod Profiles
 pub mod Advising
 pub mod Showing
+pub mod Differing
+pub mod Sides
 pub mod Asking
 pub mod AskedChildren
 pub mod Directing

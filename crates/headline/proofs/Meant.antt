@@ -26,6 +26,7 @@ use Rattle.pn_types.specs.declared.quantum.Quantum.{Quantum}
 use Rattle.pn_types.specs.declared.settings.Settings.{Settings}
 use Rattle.quanta_log.specs.Laws.{IsReadAgain}
 use Rattle.quanta_log.specs.Meaning.{meaning_of}
+use Rattle.profile_reader.specs.Laws.{ProfileIsSpelled}
 use Rattle.quanta_log.specs.Spelling.{spelled}
 use Rattle.quanta_log.specs.declared.version.Version.TheVariants.{Two}
 use Rattle.refusals.specs.Refusals.{Step, Then}
@@ -98,6 +99,7 @@ pub record AllLaws : Type 0 where
   pub logs : IsReadAgain
   pub fit : WholeFit
   pub spelled : ReportIsSpelled
+  pub profiles : ProfileIsSpelled
 
 -- ---- a run
 
@@ -425,5 +427,5 @@ tells laws sees bytes texts (Some (profile q)) range due = profile_tells laws se
 tells laws sees bytes texts (Some (annotate q)) range due = annotate_tells laws sees bytes texts q due
 tells laws sees bytes texts (Some (advise name)) range due = advise_tells laws sees bytes texts name due
 tells laws sees bytes texts (Some (show q)) range due = show_tells laws.spelled sees texts q due
-tells laws sees bytes texts (Some (diff q)) range due = diff_tells laws.spelled sees texts q due
+tells laws sees bytes texts (Some (diff q)) range due = diff_tells laws.spelled laws.profiles sees texts q due
 tells laws sees bytes texts (Some (ask q)) range due = ask_tells laws sees bytes texts q due

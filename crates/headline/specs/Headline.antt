@@ -1,5 +1,5 @@
 -- What `paradyn` tells with status 0: for each command what its texts say of the files that it names.
-use Rattle.std.specs.Prelude.{◌≡◌, IfSome, ℕ, List, [], Option, None, Some, Ok, replicate, slice_get}
+use Rattle.std.specs.Prelude.{◌≡◌, ◌⊎◌, IfSome, ℕ, true, false, List, [], Option, None, Some, Ok, replicate, slice_get}
 use Rattle.advice.specs.Directives.{advice}
 use Rattle.advice.specs.Reading.{verdicts_of}
 use Rattle.advice.specs.declared.verdict.Verdict.{Verdict}
@@ -20,6 +20,7 @@ use Rattle.commands.specs.Runnable.{IsConfOf, IsImageOf}
 use Rattle.commands.specs.Showing.{view_of}
 use Rattle.commands.specs.Runs.{IsByWorkers, IsInOrder, Order, stress_order, stress_session, stress_sight}
 use Rattle.commands.specs.FileReadings.{FileReading}
+use Rattle.commands.specs.declared.differing.Compared.{Compared}
 use Rattle.commands.specs.declared.finding.Found.{Found}
 use Rattle.commands.specs.declared.texts.Texts.{Texts}
 use Rattle.directives.specs.Acts.{applied}
@@ -30,6 +31,9 @@ use Rattle.mdl_shipped.specs.Shipped.{shipped_conf}
 use Rattle.pn_types.specs.declared.image.Image.{Image}
 use Rattle.pn_types.specs.declared.quantum.Quantum.{Quantum}
 use Rattle.pn_types.specs.declared.settings.Settings.{Settings}
+use Rattle.profile_reader.specs.Pairs.{profile_parts}
+use Rattle.profile_reader.specs.Reading.{profile_spelling}
+use Rattle.profile_reader.specs.declared.read_profile.ReadProfile.{ReadProfile}
 use Rattle.quanta_log.specs.Meaning.{meaning_of}
 use Rattle.report.specs.Text.{report_text}
 use Rattle.report.specs.Points.{points_text}
@@ -110,6 +114,12 @@ pub record IsDirectedBy (sees : FileReading) (name : List ℕ) (r : Run) : Type 
   pub made : applied shipped_conf.items r.spelled.items directives ≡ Ok r.made.items
   pub followed : IfSome r.parts.search (AreFollowed r.spelled.items directives)
 
+-- The bytes are the text of a report or of a profile, and this is compared of it.
+abbrev pub IsComparedText : List ℕ → Compared → Type 0
+IsComparedText bytes c =
+    ((r : Report) × (report_text r.parts r.skipped ≡ bytes) × (c ≡ record { is_profile = false; parts = r.parts }))
+    ⊎ ((p : ReadProfile) × (profile_spelling p ≡ bytes) × (c ≡ record { is_profile = true; parts = profile_parts p }))
+
 -- ---- the commands
 
 abbrev pub Tells : Option Request → FileReading → Texts → Type 0
@@ -162,10 +172,10 @@ Tells (Some (advise name)) sees texts =
 -- The file is the text of a report, and that report is shown.
 Tells (Some (show q)) sees texts =
     (bytes : List ℕ) × sees q.report (Ok bytes) × (r : Report) × (report_text r.parts r.skipped ≡ bytes) × (texts ≡ output (view_of q r))
--- The files are the texts of two reports, and what differs between these is told.
+-- The files are the texts of two reports or of two profiles, and what differs between these is told.
 Tells (Some (diff q)) sees texts =
     (old new : List ℕ) × sees q.old (Ok old) × sees q.new (Ok new)
-    × (r s : Report) × (report_text r.parts r.skipped ≡ old) × (report_text s.parts s.skipped ≡ new) × (texts ≡ output (diff_of r s))
+    × (a b : Compared) × IsComparedText old a × IsComparedText new b × (Ok texts ≡ diff_of a b)
 -- The wishes are for the shipped metrics, below the focus.
 Tells (Some (ask q)) sees texts =
     (image : Image) × IsProgramOf sees q.counted.program image × (conf : Conf) × IsConfOf shipped_metrics conf

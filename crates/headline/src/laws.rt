@@ -12,6 +12,7 @@ use machine::time_goes_on;
 use mdl_check::one_answer;
 use mdl_parse::one_meaning;
 use outside::Files;
+use profile_reader::profile_is_spelled;
 use quanta_log::spelled_is_read;
 use report_reader::report_is_spelled;
 use resource_tree::one_reading;
@@ -52,6 +53,7 @@ pub fn owed_is_honest<F: Files>()
     spelled_is_read();
     whole_quanta_fit();
     report_is_spelled();
+    profile_is_spelled();
 }
 
 /// What a session gives at its end can be read: each text in it is a name, a focus or in one line, and what was judged true has ticks.

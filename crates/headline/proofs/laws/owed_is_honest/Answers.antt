@@ -27,5 +27,6 @@ returns g c old new words texts owed =
       logs = c.spelled_is_read.ensures;
       fit = c.whole_quanta_fit.ensures;
       spelled = c.report_is_spelled.ensures;
+      profiles = c.profile_is_spelled.ensures;
     })
     (reads (g.F.Files.holds old) (g.F.Files.faults old) (g.F.Files.faults new)) (λ name bytes h. h.1) texts (request_of words) (ranged words) owed.due

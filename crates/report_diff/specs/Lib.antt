@@ -1,0 +1,9 @@
+pub mod Matches
+pub mod Numbers
+pub mod Runs
+pub mod Labels
+pub mod Sums
+pub mod Wishes
+pub mod Verdicts
+pub mod Diff
+pub mod Laws

@@ -1,0 +1,57 @@
+-- What a report prints of a hart's end and of a node, field by field.
+use Rattle.std.specs.Prelude.{ℕ, Option, Some, None, List, codes}
+use Rattle.pn_types.specs.Texts.{cause_text}
+use Rattle.pn_types.specs.declared.stop.StopText.{StopText}
+use Rattle.pn_types.specs.declared.stop.StopText.TheVariants.{Exit, Illegal, Break, Misaligned, Access, TextAccess, FetchOutside, Budget, Cut}
+use Rattle.report.specs.SearchTexts.{pick_of}
+use Rattle.w3_search.specs.declared.node.Node.{Node}
+use Rattle.w3_search.specs.declared.node.NodeState.{NodeState}
+use Rattle.w3_search.specs.declared.node.NodeState.TheVariants.{Waiting, Active, Confirmed, Rejected, Barred, Unfinished}
+
+-- the number in a hart's end: its status, or the address that it touched
+abbrev pub stop_code : StopText → Option ℕ
+stop_code (Exit status) = Some status
+stop_code Illegal = None
+stop_code Break = None
+stop_code Misaligned = None
+stop_code (Access at) = Some at
+stop_code (TextAccess at) = Some at
+stop_code FetchOutside = None
+stop_code Budget = None
+stop_code Cut = None
+
+-- what came of a node, in a word
+abbrev pub state_word : NodeState → List ℕ
+state_word Waiting = codes "waiting"
+state_word Active = codes "waiting"
+state_word Confirmed = codes "true"
+state_word Rejected = codes "false"
+state_word (Barred cause) = codes "barred"
+state_word (Unfinished seen) = codes "waiting"
+
+-- how many samples a node has that waits
+abbrev pub seen_by : Node → NodeState → Option ℕ
+seen_by node Waiting = Some node.seen
+seen_by node Active = Some node.seen
+seen_by node Confirmed = None
+seen_by node Rejected = None
+seen_by node (Barred cause) = None
+seen_by node (Unfinished seen) = Some seen
+
+-- a number of a node, where it has a verdict
+abbrev pub of_verdict : NodeState → ℕ → Option ℕ
+of_verdict Waiting n = None
+of_verdict Active n = None
+of_verdict Confirmed n = Some n
+of_verdict Rejected n = Some n
+of_verdict (Barred cause) n = None
+of_verdict (Unfinished seen) n = None
+
+-- why a node can't be tested
+abbrev pub bar_text : NodeState → Option (List ℕ)
+bar_text Waiting = None
+bar_text Active = None
+bar_text Confirmed = None
+bar_text Rejected = None
+bar_text (Barred cause) = Some (cause_text (pick_of cause))
+bar_text (Unfinished seen) = None

@@ -1,0 +1,4 @@
+pub mod Values
+pub mod Fields
+pub mod Report
+pub mod Laws
