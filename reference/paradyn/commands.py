@@ -1,6 +1,6 @@
 """What each command prints, and the status with which it ends."""
-from . import advice, asking, assembly, basic_blocks, command_words, configuration, directives, elf_reading, elf_writing
-from . import line_table, plans, points, profile, quanta_log, report, report_reading, resources, shipped, show, stress, tokens
+from . import advice, asking, assembly, basic_blocks, command_words, configuration, diff, directives, elf_reading, elf_writing
+from . import line_table, plans, points, profile, profile_reading, quanta_log, report, report_reading, resources, shipped, show, stress, tokens
 from .checking import CheckFault, check
 from .session import BadPick, Session
 from .turn_order import by_workers, seeded
@@ -266,18 +266,26 @@ class Call:
         except advice.BadReport as f:
             raise Refusal(13, b"paradyn: bad report at %d\n" % f.place) from None
 
-    def report(self, name, what=b"report"):
+    def report(self, name, what=b"report", profiles=False):
+        """A report; or, where profiles are taken, a profile as one. Behind it stands whether it is a profile."""
+        data = self.read(name)
+        is_profile = profiles and data.startswith(b"profile ")
         try:
-            return report_reading.read_report(self.read(name))
+            if is_profile and len(data) > report_reading.REPORT_MOST:
+                raise advice.BadReport(report_reading.REPORT_MOST)
+            return profile_reading.read_profile(data) if is_profile else report_reading.read_report(data), is_profile
         except advice.BadReport as f:
             raise Refusal(13, b"paradyn: bad %s at %d\n" % (what, f.place)) from None
 
     def show(self, w):
-        return Result(0, FORMATS[w["format"]](self.report(w["positional"][0]), w["columns"]))
+        return Result(0, FORMATS[w["format"]](self.report(w["positional"][0])[0], w["columns"]))
 
     def diff(self, w):
-        old = self.report(w["positional"][0])
-        return Result(0, diff.diff(old, self.report(w["positional"][1], b"new report")))
+        old, is_old_profile = self.report(w["positional"][0], profiles=True)
+        new, is_new_profile = self.report(w["positional"][1], b"new report", profiles=True)
+        if is_old_profile != is_new_profile:
+            raise Refusal(13, b"paradyn: bad new report at 0\n")
+        return Result(0, diff.diff(old, new))
 
     def ask(self, w):
         name, metrics = w["positional"]

@@ -177,7 +177,7 @@ def read_report(data):
             for n in range(int(m[1])):
                 node, window = read_node(r, n, window)
                 nodes.append(node)
-            search = {"full": m[2] is not None, "nodes": nodes}
+            search = {"full": m[2] is not None, "window": window, "nodes": nodes}
             if r.at < len(data):
                 r.fault()
     if sum(h[0] for h in harts) != ticks:

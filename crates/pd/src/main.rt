@@ -57,6 +57,7 @@ fn may_write_to(rt: &HostRuntime, name: &str, kind: Kind, force: bool) -> bool {
         Kind::Log => "log",
         Kind::Report => "report",
         Kind::View => "report as it is shown",
+        Kind::Difference => "table of what differs",
         Kind::Json => "report as JSON",
         Kind::Csv => "report as CSV",
         Kind::Svg => "picture of a report",

@@ -2,13 +2,14 @@
 use Rattle.std.specs.Prelude.{◌≡◌, ◌⊎◌, ℕ, ⊤, List, [], ◌∷◌, Some, None, codes, take, length}
 use Rattle.outside.specs.Outside.{Holding}
 use Rattle.pd_run.specs.declared.guarding.Kind.{Kind}
-use Rattle.pd_run.specs.declared.guarding.Kind.TheVariants.{Log, Report, View, Json, Csv, Svg, Html, Configuration, Elf, Callgrind}
+use Rattle.pd_run.specs.declared.guarding.Kind.TheVariants.{Log, Report, View, Difference, Json, Csv, Svg, Html, Configuration, Elf, Callgrind}
 
 -- how files of a kind begin
 abbrev pub beginning_of : Kind → List ℕ
 beginning_of Log = codes "PDYNLOG"
 beginning_of Report = codes "paradyn report "
 beginning_of View = codes "ticks "
+beginning_of Difference = codes "             old"
 beginning_of Json = codes "{\"format\":\"paradyn report "
 beginning_of Csv = codes "record,number,name,"
 beginning_of Svg = codes "<svg "

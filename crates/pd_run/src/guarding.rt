@@ -13,8 +13,10 @@ pub enum Kind {
     Log,
     /// A report.
     Report,
-    /// A report as a person looks at it in a terminal, or what differs between two.
+    /// A report as a person looks at it in a terminal.
     View,
+    /// What differs between two reports, of which the ticks do.
+    Difference,
     /// A report as JSON.
     Json,
     /// A report as comma-separated values.
@@ -40,6 +42,7 @@ impl Kind {
             Kind::Log => b"PDYNLOG",
             Kind::Report => b"paradyn report ",
             Kind::View => b"ticks ",
+            Kind::Difference => b"             old",
             Kind::Json => b"{\"format\":\"paradyn report ",
             Kind::Csv => b"record,number,name,",
             Kind::Svg => b"<svg ",

@@ -21,7 +21,7 @@ pub fn kind_of(alloc: Global, words: &[String]) -> Kind {
         Ok(Request::Asm(_)) => Kind::Elf,
         Ok(Request::Relog(_)) => Kind::Log,
         Ok(Request::Show(request)) => kind_in(request.format),
-        Ok(Request::Diff(_)) => Kind::View,
+        Ok(Request::Diff(_)) => Kind::Difference,
         Ok(Request::Ask(_)) => Kind::Configuration,
         _ => Kind::Report,
     }

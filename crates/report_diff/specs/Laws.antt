@@ -1,10 +1,11 @@
 -- What holds of the text of what differs.
-use Rattle.std.specs.Prelude.{ℕ, ◌≡◌, Bool, Option, List, codes, is_some, slice_get}
-use Rattle.std.specs.Option.{option_and_then, option_map}
+use Rattle.std.specs.Prelude.{ℕ, ◌≡◌, List, codes, is_some, slice_get}
+use Rattle.std.specs.Option.{option_map}
 use Rattle.first_places.specs.Places.{first_place}
 use Rattle.pn_types.specs.Texts.{stop_text}
 use Rattle.report.specs.declared.parts.ReportParts.{ReportParts}
 use Rattle.report_diff.specs.Diff.{diff_text, nodes_of}
+use Rattle.report_diff.specs.Named.{value_named}
 use Rattle.report_diff.specs.Sums.{bins_sum, shown_names}
 use Rattle.report_diff.specs.Verdicts.{node_names, node_word}
 use Rattle.report_diff.specs.Wishes.{wish_names}
@@ -12,10 +13,6 @@ use Rattle.report_diff.specs.Wishes.{wish_names}
 -- a report and itself have no difference
 abbrev pub DiffOfSame : Type 0
 DiffOfSame = (parts : ReportParts) → diff_text parts parts ≡ codes "nothing differs\n"
-
--- the value of the first thing of a name, if there is one
-abbrev pub value_named : {X V : Type 0} → (X → V) → List (List ℕ) → List X → List ℕ → Option V
-value_named value names xs name = option_map value (option_and_then (slice_get xs) (first_place name names))
 
 -- All that is compared is the same: the ticks of each hart, and how it ended; the output; the sum of each pair of a metric and a focus;
 -- which wishes were refused; and what the reports say of each node.

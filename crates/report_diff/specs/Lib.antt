@@ -1,4 +1,5 @@
 pub mod Matches
+pub mod Named
 pub mod Numbers
 pub mod Runs
 pub mod Labels
