@@ -1,6 +1,7 @@
 """What each command prints, and the status with which it ends."""
 from . import advice, asking, assembly, basic_blocks, command_words, configuration, diff, directives, elf_reading, elf_writing
-from . import line_table, plans, points, profile, profile_reading, quanta_log, report, report_reading, resources, shipped, show, stress, tokens
+from . import line_table, picture, plans, points, profile, profile_reading, quanta_log, report, report_csv, report_json, report_reading
+from . import resources, shipped, show, stress, tokens
 from .checking import CheckFault, check
 from .session import BadPick, Session
 from .turn_order import by_workers, seeded
@@ -9,6 +10,10 @@ CONFIGURATION_MOST, LOG_MOST = 1048576, 268435496
 FORMATS = {
     "blocks": lambda report, columns: show.show(report, columns, "blocks"),
     "ascii": lambda report, columns: show.show(report, columns, "ascii"),
+    "json": lambda report, columns: report_json.text(report),
+    "csv": lambda report, columns: report_csv.text(report),
+    "svg": lambda report, columns: picture.svg(report),
+    "html": lambda report, columns: picture.html(report),
 }
 
 

@@ -40,12 +40,17 @@ def short(focus):
     return ",".join(parts) or "the whole program"
 
 
-def folded(room, bins):
-    """The bins in as many as have room: each two joined, each four, and so on."""
+def folded_bins(room, bins):
+    """The bins in as many as have room, and how many each joins: two, four, and so on."""
     w = 1
     while w * room < len(bins):
         w *= 2
-    return [sum(b[2] for b in bins[k:k + w]) % ALL for k in range(0, len(bins), w)]
+    parts = [bins[k:k + w] for k in range(0, len(bins), w)]
+    return w, [(p[0][0], p[-1][1], sum(b[2] for b in p) % ALL) for p in parts]
+
+
+def folded(room, bins):
+    return [b[2] for b in folded_bins(room, bins)[1]]
 
 
 def bars(style, room, bins):
