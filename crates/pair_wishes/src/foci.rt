@@ -71,8 +71,12 @@ fn module_node(alloc: Global, proc: &Proc) -> Result<Text, NoMemory>
     Ok(Text::from_vec(node))
 }
 
-/// Returns the node of a procedure.
-fn procedure_node(alloc: Global, proc: &Proc) -> Result<Text, NoMemory>
+/// Returns the node of a procedure: `/Code/MODULE/NAME`.
+///
+/// # Errors
+///
+/// `NoMemory` where memory runs out.
+pub fn procedure_node(alloc: Global, proc: &Proc) -> Result<Text, NoMemory>
     ensures { IfOk result (λ node. node ≡ procedure_node proc.now) }
 {
     let mut node = Vec::from_slice(alloc, b"/Code/")?;

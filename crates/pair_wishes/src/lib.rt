@@ -4,5 +4,5 @@
 mod foci;
 mod wishes;
 
-pub use foci::{module_foci, procedure_foci};
+pub use foci::{module_foci, procedure_foci, procedure_node};
 pub use wishes::{AskedInterval, ask_text};

@@ -1,12 +1,12 @@
 //! A profile as the parts of a report.
 
 ghost use Rattle.std.specs.Prelude.{◌≡◌, ◌++◌, IfOk, OnOk, flat_map};
-ghost use Rattle.pair_wishes.specs.Foci.{procedure_node};
 ghost use Rattle.profile_reader.specs.Pairs.{pair, procedure_pairs, profile_parts, run_pairs};
 
 use crate::read_profile::{ReadProcedure, ReadProfile};
 use fold_hist::Bin;
-use pn_types::{NoMemory, Proc, Seq, Text};
+use pair_wishes::procedure_node;
+use pn_types::{NoMemory, Seq, Text};
 use report::{ReportParts, ShownPart};
 use std::alloc::Global;
 
@@ -35,17 +35,6 @@ fn pair(alloc: Global, name: &[u8], focus: Text, number: u64) -> Result<ShownPar
         width: 1,
         bins: Seq::from_vec(bins),
     })
-}
-
-/// Returns the focus of a procedure.
-fn procedure_node(alloc: Global, proc: &Proc) -> Result<Text, NoMemory>
-    ensures { IfOk result (λ node. node ≡ procedure_node proc.now) }
-{
-    let mut node = Vec::from_slice(alloc, b"/Code/")?;
-    node.extend_from_slice(proc.module.bytes())?;
-    node.push(b'/')?;
-    node.extend_from_slice(proc.name.bytes())?;
-    Ok(Text::from_vec(node))
 }
 
 /// Adds the pairs of a procedure.
