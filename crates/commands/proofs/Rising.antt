@@ -49,7 +49,7 @@ use Rattle.whole_run.specs.declared.misfit.Misfit.{Misfit}
 use Rattle.whole_run.specs.declared.misfit.Misfit.TheVariants as misfit
 use Rattle.commands.specs.Given.{inputs_with}
 use Rattle.profile_reader.specs.Reading.{profile_in}
-use Rattle.profile_reader.specs.declared.read_profile.ReadProfile.{ReadProfile}
+use Rattle.profile_reader.specs.declared.profile.ReadProfile.{ReadProfile}
 use Rattle.report_diff.specs.Diff.{diff_text}
 use Rattle.report_reader.specs.Reading.{report_in}
 use Rattle.report_reader.specs.declared.whole_report.Report.{Report}

@@ -13,7 +13,7 @@ use Rattle.commands.specs.declared.texts.Texts.{Texts}
 use Rattle.profile_reader.specs.Laws.{ProfileIsSpelled}
 use Rattle.profile_reader.specs.Pairs.{profile_parts}
 use Rattle.profile_reader.specs.Reading.{profile_in}
-use Rattle.profile_reader.specs.declared.read_profile.ReadProfile.{ReadProfile}
+use Rattle.profile_reader.specs.declared.profile.ReadProfile.{ReadProfile}
 use Rattle.refusals.specs.Refusals.{Step, Then}
 use Rattle.refusals.specs.declared.fault.Fault.{Fault}
 use Rattle.refusals.specs.declared.fault.Fault.TheVariants.{BadNewReport, BadReport}

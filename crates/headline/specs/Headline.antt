@@ -33,7 +33,7 @@ use Rattle.pn_types.specs.declared.quantum.Quantum.{Quantum}
 use Rattle.pn_types.specs.declared.settings.Settings.{Settings}
 use Rattle.profile_reader.specs.Pairs.{profile_parts}
 use Rattle.profile_reader.specs.Reading.{profile_spelling}
-use Rattle.profile_reader.specs.declared.read_profile.ReadProfile.{ReadProfile}
+use Rattle.profile_reader.specs.declared.profile.ReadProfile.{ReadProfile}
 use Rattle.quanta_log.specs.Meaning.{meaning_of}
 use Rattle.report.specs.Text.{report_text}
 use Rattle.report.specs.Points.{points_text}

@@ -4,19 +4,25 @@ use Rattle.std.specs.List.{find, slice_split}
 use Rattle.pn_text.specs.Bytes.{begins_with}
 use Rattle.pn_text.specs.Lines.{is_lf}
 use Rattle.advice.specs.Words.{number_at, word_at}
+use Rattle.report.specs.declared.parts.HartPart.{HartPart}
+use Rattle.report_lines.specs.Lines.{hart_of_line}
 use Rattle.report_lines.specs.Words.{address_at}
-use Rattle.profile_reader.specs.declared.read_profile.ReadProcedure.{ReadProcedure}
+use Rattle.profile_reader.specs.declared.profile.ReadProcedure.{ReadProcedure}
 
-abbrev pub lines : List ℕ → List (List ℕ)
-lines bytes = slice_split is_lf bytes
+abbrev pub lines_of : List ℕ → List (List ℕ)
+lines_of bytes = slice_split is_lf bytes
 
--- the lines that begin with a text
-abbrev pub lines_with : List ℕ → List ℕ → List (List ℕ)
-lines_with text bytes = filter (begins_with text) (lines bytes)
+-- those lines that begin with a text
+abbrev pub lines_with : List ℕ → List (List ℕ) → List (List ℕ)
+lines_with text lines = filter (begins_with text) lines
 
 -- the first line that begins with a text; empty where there is none
-abbrev pub first_with : List ℕ → List ℕ → List ℕ
-first_with text bytes = unwrap_or (find (begins_with text) (lines bytes)) []
+abbrev pub first_with : List ℕ → List (List ℕ) → List ℕ
+first_with text lines = unwrap_or (find (begins_with text) lines) []
+
+-- the harts that lines tell, of which the first 32 count
+abbrev pub harts_of : List (List ℕ) → List HartPart
+harts_of lines = take 32 (map hart_of_line lines)
 
 -- ---- procedures
 
@@ -46,5 +52,5 @@ abbrev pub is_other : List ℕ → Bool
 is_other line = begins_with (codes "call ") line || begins_with (codes "loop ") line || begins_with (codes "word ") line
 
 -- their lines as they are, each with its LF
-abbrev pub other_lines : List ℕ → List ℕ
-other_lines bytes = flat_map (λ line. line ++ 10 ∷ []) (filter is_other (lines bytes))
+abbrev pub other_lines : List (List ℕ) → List ℕ
+other_lines lines = flat_map (λ line. line ++ 10 ∷ []) (filter is_other lines)

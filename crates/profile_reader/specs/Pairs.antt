@@ -4,8 +4,8 @@ use Rattle.std.specs.Prelude.{ℕ, None, List, [], ◌∷◌, ◌++◌, codes, f
 use Rattle.pair_wishes.specs.Foci.{procedure_node}
 use Rattle.report.specs.declared.parts.ReportParts.{ReportParts}
 use Rattle.report.specs.declared.parts.ShownPart.{ShownPart}
-use Rattle.profile_reader.specs.declared.read_profile.ReadProcedure.{ReadProcedure}
-use Rattle.profile_reader.specs.declared.read_profile.ReadProfile.{ReadProfile}
+use Rattle.profile_reader.specs.declared.profile.ReadProcedure.{ReadProcedure}
+use Rattle.profile_reader.specs.declared.profile.ReadProfile.{ReadProfile}
 
 -- a number as the only bin of what was shown under a name at a focus
 abbrev pub pair : List ℕ → List ℕ → ℕ → ShownPart

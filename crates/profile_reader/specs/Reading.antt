@@ -9,30 +9,29 @@ use Rattle.advice.specs.declared.fault.ReportFault.TheVariants.{BadReport}
 use Rattle.profile_text.specs.Lines.{procedure_line, rest_line, run_ticks, run_untold}
 use Rattle.profile_text.specs.Rows.{Row}
 use Rattle.report.specs.Text.{hart_lines}
-use Rattle.report_lines.specs.Lines.{hart_of_line}
-use Rattle.profile_reader.specs.Lines.{first_with, lines_with, other_lines, procedure_of_line}
-use Rattle.profile_reader.specs.declared.read_profile.ReadProcedure.{ReadProcedure}
-use Rattle.profile_reader.specs.declared.read_profile.ReadProfile.{ReadProfile}
+use Rattle.profile_reader.specs.Lines.{first_with, harts_of, lines_of, lines_with, other_lines, procedure_of_line}
+use Rattle.profile_reader.specs.declared.profile.ReadProcedure.{ReadProcedure}
+use Rattle.profile_reader.specs.declared.profile.ReadProfile.{ReadProfile}
 
 -- ---- what lines say
 
-abbrev pub run_line : List ℕ → List ℕ
-run_line bytes = first_with (codes "profile ") bytes
+abbrev pub run_line : List (List ℕ) → List ℕ
+run_line lines = first_with (codes "profile ") lines
 
-abbrev pub rest_in : List ℕ → List ℕ
-rest_in bytes = first_with (codes "rest ") bytes
+abbrev pub rest_in : List (List ℕ) → List ℕ
+rest_in lines = first_with (codes "rest ") lines
 
 -- `profile harts N ticks T untold U outside O`, the harts, the procedures, `rest words W ticks T`, and the other lines
-abbrev pub profile_of_lines : List ℕ → ReadProfile
-profile_of_lines bytes = record {
-  ticks = number_at 4 (run_line bytes);
-  untold = number_at 6 (run_line bytes);
-  outside = number_at 8 (run_line bytes);
-  harts = map hart_of_line (lines_with (codes "hart ") bytes);
-  procedures = map procedure_of_line (lines_with (codes "procedure ") bytes);
-  rest_words = number_at 2 (rest_in bytes);
-  rest_ticks = number_at 4 (rest_in bytes);
-  others = other_lines bytes;
+unfoldable pub profile_of_lines : List (List ℕ) → ReadProfile
+profile_of_lines lines = record {
+  ticks = number_at 4 (run_line lines);
+  untold = number_at 6 (run_line lines);
+  outside = number_at 8 (run_line lines);
+  harts = harts_of (lines_with (codes "hart ") lines);
+  procedures = map procedure_of_line (lines_with (codes "procedure ") lines);
+  rest_words = number_at 2 (rest_in lines);
+  rest_ticks = number_at 4 (rest_in lines);
+  others = other_lines lines;
 }
 
 -- ---- the text of a profile that was read
@@ -43,7 +42,7 @@ row_of x = record { proc = x.proc; entered = x.entered; ticks = x.ticks }
 abbrev pub read_run_line : ReadProfile → List ℕ
 read_run_line p = run_ticks (length p.harts) p.ticks ++ run_untold p.untold p.outside
 
-abbrev pub profile_spelling : ReadProfile → List ℕ
+unfoldable pub profile_spelling : ReadProfile → List ℕ
 profile_spelling p =
     read_run_line p ++ hart_lines 0 p.harts ++ flat_map (λ x. procedure_line (row_of x)) p.procedures ++ rest_line p.rest_words p.rest_ticks
     ++ p.others
@@ -60,13 +59,16 @@ common_len (x ∷ xs) (y ∷ ys) = if x == y then 1 + common_len xs ys else 0
 abbrev pub adds_up : ReadProfile → Bool
 adds_up p = sum_by (λ part. part.ticks) p.harts == p.ticks
 
+-- its text is these bytes
+abbrev pub is_spelled : List ℕ → ReadProfile → Bool
+is_spelled bytes p = bytes_eq (profile_spelling p) bytes && adds_up p
+
 -- a profile whose text is these bytes; the fault is at the first byte that isn't as in that text, or at the end where the ticks don't add up
 abbrev pub if_spelled : List ℕ → ReadProfile → Result ReadProfile ReportFault
-if_spelled bytes p =
-    if bytes_eq (profile_spelling p) bytes && adds_up p then Ok p else Err (BadReport (common_len (profile_spelling p) bytes))
+if_spelled bytes p = if is_spelled bytes p then Ok p else Err (BadReport (common_len (profile_spelling p) bytes))
 
 abbrev pub profile_in : List ℕ → Result ReadProfile ReportFault
-profile_in bytes = if_spelled bytes (profile_of_lines bytes)
+profile_in bytes = if_spelled bytes (profile_of_lines (lines_of bytes))
 
 -- the result is what the bytes tell, unless memory runs out
 abbrev pub ReadsProfile : Result ReadProfile ReportError → Result ReadProfile ReportFault → Type 0

@@ -1,11 +1,18 @@
 //! The lines of a profile by their first words.
 
-ghost use Rattle.std.specs.Prelude.{◌≡◌, ◌++◌, ◌∷◌, [], IfOk, OnOk, flat_map, map};
+ghost use Rattle.std.specs.Prelude.{◌≡◌, ◌++◌, ◌∷◌, [], IfOk, OnOk, map};
 ghost use Rattle.pn_text.specs.Bytes.{begins_with};
-ghost use Rattle.profile_reader.specs.Lines.{first_with, is_other, lines_with, other_lines};
+ghost use Rattle.profile_reader.specs.Lines.{first_with, is_other, lines_of, lines_with, other_lines};
 
 use pn_types::NoMemory;
 use std::alloc::Global;
+
+/// Returns the lines, each without its LF, and what stands behind the last.
+pub(crate) fn lines_of(alloc: Global, bytes: &[u8]) -> Result<Vec<&[u8]>, NoMemory>
+    ensures { IfOk result (λ lines. map (λ line. line.now) lines.items ≡ lines_of bytes.now) }
+{
+    bytes.split(|byte| *byte == b'\n').collect(alloc)
+}
 
 /// Returns whether a line begins with a text.
 fn begins(line: &[u8], text: &[u8]) -> bool
@@ -14,28 +21,33 @@ fn begins(line: &[u8], text: &[u8]) -> bool
     line.starts_with(text)
 }
 
-/// Returns the lines that begin with a text, each without its LF.
+/// Returns those lines that begin with a text.
 pub(crate) fn lines_with<'a>(
     alloc: Global,
     text: &[u8],
-    bytes: &'a [u8],
+    lines: &[&'a [u8]],
 ) -> Result<Vec<&'a [u8]>, NoMemory>
-    ensures { IfOk result (λ lines. map (λ line. line.now) lines.items ≡ lines_with text.now bytes.now) }
+    ensures { IfOk result (λ found. map (λ line. line.now) found.items ≡ lines_with text.now (map (λ line. line.now) lines.now)) }
 {
-    bytes
-        .split(|byte| *byte == b'\n')
-        .filter(|line| begins(line, text))
-        .collect(alloc)
+    let mut found = Vec::new(alloc);
+    for line in lines {
+        if begins(line, text) {
+            found.push(*line)?;
+        }
+    }
+    Ok(found)
 }
 
 /// Returns the first line that begins with a text, or an empty one.
-pub(crate) fn first_with<'a>(text: &[u8], bytes: &'a [u8]) -> &'a [u8]
-    ensures { result.now ≡ first_with text.now bytes.now }
+pub(crate) fn first_with<'a>(text: &[u8], lines: &[&'a [u8]]) -> &'a [u8]
+    ensures { result.now ≡ first_with text.now (map (λ line. line.now) lines.now) }
 {
-    bytes
-        .split(|byte| *byte == b'\n')
-        .find(|line| begins(line, text))
-        .unwrap_or(&[])
+    for line in lines {
+        if begins(line, text) {
+            return line;
+        }
+    }
+    &[]
 }
 
 /// Returns whether a line is of a call, a loop or a word.
@@ -55,11 +67,11 @@ fn add_line(text: &mut Vec<u8>, line: &[u8]) -> Result<(), NoMemory>
 }
 
 /// Returns the lines of calls, loops and words as they are, each with its LF.
-pub(crate) fn other_lines(alloc: Global, bytes: &[u8]) -> Result<Vec<u8>, NoMemory>
-    ensures { IfOk result (λ text. text.items ≡ other_lines bytes.now) }
+pub(crate) fn other_lines(alloc: Global, lines: &[&[u8]]) -> Result<Vec<u8>, NoMemory>
+    ensures { IfOk result (λ text. text.items ≡ other_lines (map (λ line. line.now) lines.now)) }
 {
     let mut text = Vec::new(alloc);
-    for line in bytes.split(|byte| *byte == b'\n') {
+    for line in lines {
         if is_other(line) {
             add_line(&mut text, line)?;
         }

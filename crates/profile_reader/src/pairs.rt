@@ -3,7 +3,7 @@
 ghost use Rattle.std.specs.Prelude.{◌≡◌, ◌++◌, IfOk, OnOk, flat_map};
 ghost use Rattle.profile_reader.specs.Pairs.{pair, procedure_pairs, profile_parts, run_pairs};
 
-use crate::read_profile::{ReadProcedure, ReadProfile};
+use crate::profile::{ReadProcedure, ReadProfile};
 use fold_hist::Bin;
 use pair_wishes::procedure_node;
 use pn_types::{NoMemory, Seq, Text};

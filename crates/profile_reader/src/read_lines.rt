@@ -1,25 +1,45 @@
 //! What the lines of a profile say.
 
-ghost use Rattle.std.specs.Prelude.{◌≡◌, IfOk, map};
-ghost use Rattle.profile_reader.specs.Lines.{lines_with, module_len, procedure_of_line};
+ghost use Rattle.std.specs.Prelude.{◌≡◌, ◌+◌, ◌<◌, ◌≤◌, IfOk, IfSome, drop, length, map, position};
+ghost use Rattle.profile_reader.specs.Lines.{harts_of, is_slash, module_len, procedure_of_line};
 ghost use Rattle.profile_reader.specs.Reading.{profile_of_lines};
-ghost use Rattle.report_lines.specs.Lines.{hart_of_line};
 
 use crate::line_kinds::{first_with, lines_with, other_lines};
-use crate::read_profile::{ReadProcedure, ReadProfile};
+use crate::profile::{ReadProcedure, ReadProfile};
 use advice::{number_at, word_at};
 use pn_types::{NoMemory, Proc, Seq, Text};
 use report::HartPart;
 use report_lines::{address_at, hart_of_line};
 use std::alloc::Global;
 
+/// How many harts there may be.
+const MOST_HARTS: usize = 32;
+
+/// Returns where the first slash stands.
+fn first_slash(path: &[u8]) -> Option<usize>
+    ensures number { result ≡ position is_slash path.now }
+    ensures range { IfSome result (λ place. place < length path.now) }
+{
+    path.iter().position(|byte| *byte == b'/')
+}
+
 /// Returns where the name of a module ends.
 fn module_len(path: &[u8]) -> usize
-    ensures { result ≡ module_len path.now }
+    ensures number { result ≡ module_len path.now }
+    ensures range { result ≤ length path.now }
 {
-    path.iter()
-        .position(|byte| *byte == b'/')
-        .unwrap_or(path.len())
+    first_slash(path).unwrap_or(path.len())
+}
+
+/// Returns what stands behind so many bytes and one more.
+fn behind(path: &[u8], count: usize) -> &[u8]
+    ensures { result.now ≡ drop (count + 1) path.now }
+{
+    if count < path.len() {
+        &path[count + 1..]
+    } else {
+        &[]
+    }
 }
 
 /// Returns a text of these bytes.
@@ -37,7 +57,7 @@ fn procedure_of_line(alloc: Global, line: &[u8]) -> Result<ReadProcedure, NoMemo
     let end = module_len(path);
     Ok(ReadProcedure {
         proc: Proc {
-            name: text(alloc, path.get(end + 1..).unwrap_or(&[]))?,
+            name: text(alloc, behind(path, end))?,
             module: text(alloc, &path[..end])?,
             start: address_at(3, line),
             len: number_at(5, line).wrapping_mul(4),
@@ -47,12 +67,16 @@ fn procedure_of_line(alloc: Global, line: &[u8]) -> Result<ReadProcedure, NoMemo
     })
 }
 
-/// Returns the harts that lines tell.
+/// Returns the harts that lines tell, of which the first 32 count.
 fn harts(alloc: Global, lines: &[&[u8]]) -> Result<Vec<HartPart>, NoMemory>
-    ensures { IfOk result (λ parts. parts.items ≡ map hart_of_line (map (λ line. line.now) lines.now)) }
+    ensures parts { IfOk result (λ parts. parts.items ≡ harts_of (map (λ line. line.now) lines.now)) }
+    ensures few { IfOk result (λ parts. length parts.items ≤ 32) }
 {
     let mut parts = Vec::new(alloc);
     for line in lines {
+        if parts.len() == MOST_HARTS {
+            return Ok(parts);
+        }
         parts.push(hart_of_line(line))?;
     }
     Ok(parts)
@@ -69,14 +93,16 @@ fn procedures(alloc: Global, lines: &[&[u8]]) -> Result<Vec<ReadProcedure>, NoMe
     Ok(procedures)
 }
 
-/// Returns the profile that the lines of these bytes tell.
-pub(crate) fn profile_of_lines(alloc: Global, bytes: &[u8]) -> Result<ReadProfile, NoMemory>
-    ensures { IfOk result (λ profile. profile ≡ profile_of_lines bytes.now) }
+/// Returns the profile that lines tell.
+#[tactic(auto, unfolding(crate::specs::Reading::profile_of_lines))]
+pub(crate) fn profile_of_lines(alloc: Global, lines: &[&[u8]]) -> Result<ReadProfile, NoMemory>
+    ensures profile { IfOk result (λ profile. profile ≡ profile_of_lines (map (λ line. line.now) lines.now)) }
+    ensures few { IfOk result (λ profile. length profile.harts ≤ 32) }
 {
-    let run = first_with(b"profile ", bytes);
-    let rest = first_with(b"rest ", bytes);
-    let harts = harts(alloc, &lines_with(alloc, b"hart ", bytes)?)?;
-    let procedures = procedures(alloc, &lines_with(alloc, b"procedure ", bytes)?)?;
+    let run = first_with(b"profile ", lines);
+    let rest = first_with(b"rest ", lines);
+    let harts = harts(alloc, &lines_with(alloc, b"hart ", lines)?)?;
+    let procedures = procedures(alloc, &lines_with(alloc, b"procedure ", lines)?)?;
     Ok(ReadProfile {
         ticks: number_at(4, run),
         untold: number_at(6, run),
@@ -85,6 +111,6 @@ pub(crate) fn profile_of_lines(alloc: Global, bytes: &[u8]) -> Result<ReadProfil
         procedures: Seq::from_vec(procedures),
         rest_words: number_at(2, rest),
         rest_ticks: number_at(4, rest),
-        others: Text::from_vec(other_lines(alloc, bytes)?),
+        others: Text::from_vec(other_lines(alloc, lines)?),
     })
 }

@@ -1,16 +1,18 @@
 //! Reading a profile.
 
 ghost use Rattle.std.specs.Prelude.{◌≡◌, ◌<◌, ◌≤◌, ◌^◌, IfOk, bytes_eq, length, sum_by, IsTrue};
-ghost use Rattle.profile_reader.specs.Reading.{ReadsProfile, adds_up, common_len, profile_in};
+ghost use Rattle.profile_reader.specs.Reading.{ReadsProfile, adds_up, common_len, is_spelled, profile_in, profile_spelling};
 
+use crate::line_kinds::lines_of;
 use crate::read_lines::profile_of_lines;
-use crate::read_profile::ReadProfile;
+use crate::profile::ReadProfile;
 use crate::spelling::spelling;
 use advice::{ReportError, ReportFault};
 use report::HartPart;
 use std::alloc::Global;
 
 /// Returns how many bytes two texts have in common from their beginnings on.
+#[tactic(auto, using(crate::proofs::Cuts::nothing_common))]
 fn common_len(one: &[u8], other: &[u8]) -> usize
     ensures { result ≡ common_len one.now other.now }
 {
@@ -48,6 +50,15 @@ fn adds_up(profile: &ReadProfile) -> bool
     total_ticks(profile.harts.as_slice()) == profile.ticks as u128
 }
 
+/// Returns whether the text of a profile is these bytes.
+fn is_spelled(text: &[u8], bytes: &[u8], profile: &ReadProfile) -> bool
+    requires { text.now ≡ profile_spelling profile.now }
+    ensures same { result ≡ is_spelled bytes.now profile.now }
+    ensures small { IsTrue result → sum_by (λ part. part.ticks) profile.now.harts < 2 ^ 64 }
+{
+    is_same(text, bytes) && adds_up(profile)
+}
+
 /// Returns the profile that bytes are. Its harts' ticks together are below 2^64.
 ///
 /// # Errors
@@ -58,9 +69,9 @@ pub fn read_profile(alloc: Global, bytes: &[u8]) -> Result<ReadProfile, ReportEr
     ensures told { ReadsProfile result (profile_in bytes.now) }
     ensures ticks { IfOk result (λ profile. sum_by (λ part. part.ticks) profile.harts < 2 ^ 64) }
 {
-    let profile = profile_of_lines(alloc, bytes)?;
+    let profile = profile_of_lines(alloc, &lines_of(alloc, bytes)?)?;
     let text = spelling(alloc, &profile)?;
-    if is_same(&text, bytes) && adds_up(&profile) {
+    if is_spelled(&text, bytes, &profile) {
         return Ok(profile);
     }
     let place = common_len(&text, bytes);

@@ -1,10 +1,10 @@
 //! The text of a profile that was read.
 
-ghost use Rattle.std.specs.Prelude.{◌≡◌, ◌++◌, IfOk, OnOk, flat_map};
+ghost use Rattle.std.specs.Prelude.{◌≡◌, ◌++◌, ◌≤◌, IfOk, OnOk, flat_map, length};
 ghost use Rattle.profile_reader.specs.Reading.{profile_spelling, read_run_line, row_of};
 ghost use Rattle.profile_text.specs.Lines.{procedure_line};
 
-use crate::read_profile::{ReadProcedure, ReadProfile};
+use crate::profile::{ReadProcedure, ReadProfile};
 use pn_types::NoMemory;
 use profile_text::{ProcedureRow, add_rest, add_row, add_run_ticks, add_run_untold};
 use report::add_harts;
@@ -53,7 +53,9 @@ fn add_procedures(
 }
 
 /// Returns the text of a profile.
+#[tactic(auto, unfolding(crate::specs::Reading::profile_spelling))]
 pub(crate) fn spelling(alloc: Global, profile: &ReadProfile) -> Result<Vec<u8>, NoMemory>
+    requires { length profile.now.harts ≤ 32 }
     ensures { IfOk result (λ text. text.items ≡ profile_spelling profile.now) }
 {
     let mut out = Vec::new(alloc);

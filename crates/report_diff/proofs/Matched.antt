@@ -24,6 +24,21 @@ back_none (x ∷ xs) ys e = cc
 pub both_none : {A : Type 0} (xs ys : List A) → xs ≡ [] → ys ≡ [] → xs ++ ys ≡ []
 both_none {A = A} xs ys e f = ap (λ (z : List A). z ++ ys) e ∙ f
 
+pub four_none : (a b c d : List ℕ) → a ≡ [] → b ≡ [] → c ≡ [] → d ≡ [] → a ++ b ++ c ++ d ≡ []
+four_none a b c d e f g h = both_none (a ++ b ++ c) d (both_none (a ++ b) c (both_none a b e f) g) h
+
+pub record AreNone (a b c d : List ℕ) : Type 0 where
+  pub first : a ≡ []
+  pub second : b ≡ []
+  pub third : c ≡ []
+  pub fourth : d ≡ []
+
+pub each_none : (a b c d : List ℕ) → a ++ b ++ c ++ d ≡ [] → AreNone a b c d
+each_none a b c d e =
+    let three = front_none (a ++ b ++ c) d e in
+    let two = front_none (a ++ b) c three in
+    record { first = front_none a b two; second = back_none a b two; third = back_none (a ++ b) c three; fourth = back_none (a ++ b ++ c) d e }
+
 -- ---- places
 
 -- at the first place of a name stands that name

@@ -36,17 +36,17 @@ is_same_sum olds news m =
 
 unfoldable pub same_sums_line : ℕ → List ℕ
 same_sums_line n =
-    if n == 0 then [] else codes "same sum: " ++ amount_text n (codes "histogram") (codes "histograms") ++ codes "\n"
+    if n == 0 then [] else codes "same sum: " ++ amount_text n (codes "pair") (codes "pairs") ++ codes "\n"
 
 unfoldable pub lone_histogram : List ℕ → ShownPart → List ℕ
-lone_histogram report part = only_in report ++ codes "histogram " ++ label_at part.metric part.focus ++ codes "\n"
+lone_histogram report part = only_in report ++ label_at part.metric part.focus ++ codes "\n"
 
 abbrev pub lone_histograms : List ℕ → List ShownPart → List Match → List ℕ
 lone_histograms report parts ms = flat_map (alone_text (lone_histogram report) parts) ms
 
 -- a table of the rows, if there are any
 abbrev pub sums_table : List ℕ → List ℕ
-sums_table rows = if is_none rows then [] else columns_heading (codes "histogram") ++ rows
+sums_table rows = if is_none rows then [] else columns_heading (codes "metric, focus") ++ rows
 
 -- the rows, how many sums are the same, and the histograms that stand in one report alone; nothing where nothing differs
 unfoldable pub sums_section : List ℕ → ℕ → List ℕ → List ℕ → List ℕ

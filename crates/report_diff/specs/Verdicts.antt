@@ -50,7 +50,7 @@ is_same_state olds news m =
     (slice_get olds m.place) false
 
 unfoldable pub same_states_line : ℕ → List ℕ
-same_states_line n = if n == 0 then [] else codes "same state: " ++ amount_text n (codes "node") (codes "nodes") ++ codes "\n"
+same_states_line n = if n == 0 then [] else codes "same state: " ++ amount_text n (codes "node\n") (codes "nodes\n")
 
 -- ---- nodes that stand in one report alone
 

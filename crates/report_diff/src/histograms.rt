@@ -148,7 +148,7 @@ fn add_same_sums(alloc: Global, out: &mut Vec<u8>, count: usize) -> Result<(), N
         return Ok(());
     }
     out.extend_from_slice(b"same sum: ")?;
-    add_amount(alloc, out, count as u64, b"histogram", b"histograms")?;
+    add_amount(alloc, out, count as u64, b"pair", b"pairs")?;
     out.extend_from_slice(b"\n")
 }
 
@@ -163,7 +163,6 @@ fn add_lone_histogram(
     ensures { OnOk result (out.new.items ≡ out.old.items ++ lone_histogram report.now part.now) }
 {
     add_only_in(out, report)?;
-    out.extend_from_slice(b"histogram ")?;
     add_label(alloc, out, &part.metric, &part.focus)?;
     out.extend_from_slice(b"\n")
 }
@@ -210,7 +209,7 @@ fn add_table(out: &mut Vec<u8>, rows: &[u8]) -> Result<(), NoMemory>
     if rows.is_empty() {
         return Ok(());
     }
-    add_heading(out, b"histogram")?;
+    add_heading(out, b"metric, focus")?;
     out.extend_from_slice(rows)
 }
 

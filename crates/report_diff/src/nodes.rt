@@ -159,8 +159,8 @@ fn add_same_states(alloc: Global, out: &mut Vec<u8>, count: usize) -> Result<(),
         return Ok(());
     }
     out.extend_from_slice(b"same state: ")?;
-    add_amount(alloc, out, count as u64, b"node", b"nodes")?;
-    out.extend_from_slice(b"\n")
+    add_amount(alloc, out, count as u64, b"node\n", b"nodes\n")?;
+    Ok(())
 }
 
 /// Returns how many matches have no other.

@@ -1,8 +1,9 @@
 //! The ticks of two runs, how their harts ended, and what their programs wrote.
 
-ghost use Rattle.std.specs.Prelude.{◌≡◌, ◌++◌, ◌<◌, ◌^◌, IfOk, OnOk, drop, sum_by};
+ghost use Rattle.std.specs.Prelude.{◌≡◌, ◌++◌, ◌<◌, ◌^◌, [], if◌then◌else◌, nat_lt, IfOk, OnOk, slice_get, sum_by};
+ghost use Rattle.std.specs.Option.{option_map_or};
 ghost use Rattle.pn_types.specs.Texts.{stop_text};
-ghost use Rattle.report_diff.specs.Runs.{all_ticks, are_several, hart_end_line, hart_label, hart_rows, hart_ticks_row, harts_diff, harts_in_both, lone_hart_line, lone_hart_lines, lone_harts, ticks_table};
+ghost use Rattle.report_diff.specs.Runs.{all_ticks, are_several, has_same_end, hart_end_line, hart_label, hart_rows, hart_ticks_row, harts_diff, harts_in_both, lone_hart_line, lone_harts, ticks_table};
 
 use crate::numbers::{add_heading, add_numbers_row};
 use crate::pieces::{add_decimal, add_only_in};
@@ -37,15 +38,29 @@ fn add_hart_ticks(
     add_numbers_row(alloc, out, old.ticks, new.ticks, &label)
 }
 
+/// Adds the ticks of a hart that stands in both, where they differ.
+fn add_ticks_if_both(
+    alloc: Global,
+    out: &mut Vec<u8>,
+    number: usize,
+    old: &HartPart,
+    news: &[HartPart],
+) -> Result<(), NoMemory>
+    ensures { OnOk result (out.new.items ≡ out.old.items ++ option_map_or (hart_ticks_row number old.now) (slice_get news.now number) []) }
+{
+    match news.get(number) {
+        Some(new) => add_hart_ticks(alloc, out, number as u64, old, new),
+        None => Ok(()),
+    }
+}
+
 /// Returns the ticks of the harts that stand in both, where they differ.
 fn hart_rows(alloc: Global, olds: &[HartPart], news: &[HartPart]) -> Result<Vec<u8>, NoMemory>
     ensures { IfOk result (λ rows. rows.items ≡ hart_rows olds.now news.now) }
 {
     let mut rows = Vec::new(alloc);
-    for number in 0..olds.len().min(news.len()) {
-        let old = &olds[number];
-        let new = &news[number];
-        add_hart_ticks(alloc, &mut rows, number as u64, old, new)?;
+    for (number, old) in olds.iter().enumerate() {
+        add_ticks_if_both(alloc, &mut rows, number, old, news)?;
     }
     Ok(rows)
 }
@@ -112,6 +127,15 @@ fn stop_text(alloc: Global, stop: StopText) -> Result<Vec<u8>, NoMemory>
     Ok(text)
 }
 
+/// Returns whether two harts ended in the same way.
+fn has_same_end(alloc: Global, old: &HartPart, new: &HartPart) -> Result<bool, NoMemory>
+    ensures { IfOk result (λ same. same ≡ has_same_end old.now new.now) }
+{
+    let was = stop_text(alloc, old.stop)?;
+    let is = stop_text(alloc, new.stop)?;
+    Ok(was == is)
+}
+
 /// Adds how a hart ended, where that differs.
 #[tactic(auto, unfolding(crate::specs::Runs::hart_end_line))]
 fn add_hart_end(
@@ -123,18 +147,29 @@ fn add_hart_end(
 ) -> Result<(), NoMemory>
     ensures { OnOk result (out.new.items ≡ out.old.items ++ hart_end_line number old.now new.now) }
 {
-    let old = stop_text(alloc, old.stop)?;
-    let new = stop_text(alloc, new.stop)?;
-    if old == new {
+    if has_same_end(alloc, old, new)? {
         return Ok(());
     }
-    let label = hart_label(alloc, number)?;
-    out.extend_from_slice(&label)?;
-    out.extend_from_slice(b": ")?;
-    out.extend_from_slice(&old)?;
-    out.extend_from_slice(b" -> ")?;
-    out.extend_from_slice(&new)?;
-    out.extend_from_slice(b"\n")
+    let was = old.stop;
+    let is = new.stop;
+    let line = format!(in alloc; "hart {number}: {was} -> {is}\n")?;
+    out.extend_from_slice(line.as_bytes())
+}
+
+/// Adds how a hart ended that stands in both, where that differs.
+fn add_end_if_both(
+    alloc: Global,
+    out: &mut Vec<u8>,
+    number: usize,
+    old: &HartPart,
+    news: &[HartPart],
+) -> Result<(), NoMemory>
+    ensures { OnOk result (out.new.items ≡ out.old.items ++ option_map_or (hart_end_line number old.now) (slice_get news.now number) []) }
+{
+    match news.get(number) {
+        Some(new) => add_hart_end(alloc, out, number as u64, old, new),
+        None => Ok(()),
+    }
 }
 
 /// Adds how the harts ended that stand in both, where that differs.
@@ -144,12 +179,10 @@ fn add_hart_ends(
     olds: &[HartPart],
     news: &[HartPart],
 ) -> Result<(), NoMemory>
-    ensures { OnOk result (out.new.items ≡ out.old.items ++ harts_in_both hart_end_line 0 olds.now news.now) }
+    ensures { OnOk result (out.new.items ≡ out.old.items ++ harts_in_both hart_end_line news.now 0 olds.now) }
 {
-    for number in 0..olds.len().min(news.len()) {
-        let old = &olds[number];
-        let new = &news[number];
-        add_hart_end(alloc, out, number as u64, old, new)?;
+    for (number, old) in olds.iter().enumerate() {
+        add_end_if_both(alloc, out, number, old, news)?;
     }
     Ok(())
 }
@@ -165,31 +198,43 @@ fn add_lone_hart(
 ) -> Result<(), NoMemory>
     ensures { OnOk result (out.new.items ≡ out.old.items ++ lone_hart_line report.now number part.now) }
 {
-    let label = hart_label(alloc, number)?;
-    let stop = stop_text(alloc, part.stop)?;
+    let ticks = part.ticks;
+    let stop = part.stop;
+    let line = format!(in alloc; "hart {number}, {ticks} ticks, {stop}\n")?;
     add_only_in(out, report)?;
-    out.extend_from_slice(&label)?;
-    out.extend_from_slice(b", ")?;
-    add_decimal(alloc, out, part.ticks)?;
-    out.extend_from_slice(b" ticks, ")?;
-    out.extend_from_slice(&stop)?;
-    out.extend_from_slice(b"\n")
+    out.extend_from_slice(line.as_bytes())
 }
 
-/// Adds the harts of a report behind those that the other has.
-#[tactic(auto, unfolding(crate::specs::Runs::lone_harts))]
+/// Adds a hart, unless its number is below that of the others.
+fn add_if_lone(
+    alloc: Global,
+    out: &mut Vec<u8>,
+    report: &[u8],
+    others: usize,
+    number: usize,
+    part: &HartPart,
+) -> Result<(), NoMemory>
+    ensures { OnOk result (out.new.items
+        ≡ out.old.items ++ (if nat_lt number others then [] else lone_hart_line report.now number part.now)) }
+{
+    if number < others {
+        return Ok(());
+    }
+    add_lone_hart(alloc, out, report, number as u64, part)
+}
+
+/// Adds the harts of a report that stand behind so many others.
 fn add_lone_harts(
     alloc: Global,
     out: &mut Vec<u8>,
     report: &[u8],
+    others: usize,
     harts: &[HartPart],
-    others: &[HartPart],
 ) -> Result<(), NoMemory>
-    ensures { OnOk result (out.new.items ≡ out.old.items ++ lone_harts report.now harts.now others.now) }
+    ensures { OnOk result (out.new.items ≡ out.old.items ++ lone_harts report.now others 0 harts.now) }
 {
-    for number in others.len()..harts.len() {
-        let part = &harts[number];
-        add_lone_hart(alloc, out, report, number as u64, part)?;
+    for (number, part) in harts.iter().enumerate() {
+        add_if_lone(alloc, out, report, others, number, part)?;
     }
     Ok(())
 }
@@ -213,6 +258,6 @@ pub fn add_harts_diff(
     let rows = hart_rows(alloc, olds, news)?;
     add_ticks(alloc, out, olds, news, &rows)?;
     add_hart_ends(alloc, out, olds, news)?;
-    add_lone_harts(alloc, out, b"OLD", olds, news)?;
-    add_lone_harts(alloc, out, b"NEW", news, olds)
+    add_lone_harts(alloc, out, b"OLD", news.len(), olds)?;
+    add_lone_harts(alloc, out, b"NEW", olds.len(), news)
 }

@@ -1,10 +1,9 @@
 -- What a report prints of a hart's end and of a node, field by field.
 use Rattle.std.specs.Prelude.{ℕ, Option, Some, None, List, codes}
-use Rattle.pn_types.specs.Texts.{cause_text}
+use Rattle.pn_types.specs.declared.pick.PickCause.{PickCause}
 use Rattle.pn_types.specs.declared.stop.StopText.{StopText}
 use Rattle.pn_types.specs.declared.stop.StopText.TheVariants.{Exit, Illegal, Break, Misaligned, Access, TextAccess, FetchOutside, Budget, Cut}
 use Rattle.report.specs.SearchTexts.{pick_of}
-use Rattle.w3_search.specs.declared.node.Node.{Node}
 use Rattle.w3_search.specs.declared.node.NodeState.{NodeState}
 use Rattle.w3_search.specs.declared.node.NodeState.TheVariants.{Waiting, Active, Confirmed, Rejected, Barred, Unfinished}
 
@@ -29,14 +28,14 @@ state_word Rejected = codes "false"
 state_word (Barred cause) = codes "barred"
 state_word (Unfinished seen) = codes "waiting"
 
--- how many samples a node has that waits
-abbrev pub seen_by : Node → NodeState → Option ℕ
-seen_by node Waiting = Some node.seen
-seen_by node Active = Some node.seen
-seen_by node Confirmed = None
-seen_by node Rejected = None
-seen_by node (Barred cause) = None
-seen_by node (Unfinished seen) = Some seen
+-- how many samples a node has that waits, where it took so many
+abbrev pub seen_by : NodeState → ℕ → Option ℕ
+seen_by Waiting taken = Some taken
+seen_by Active taken = Some taken
+seen_by Confirmed taken = None
+seen_by Rejected taken = None
+seen_by (Barred cause) taken = None
+seen_by (Unfinished seen) taken = Some seen
 
 -- a number of a node, where it has a verdict
 abbrev pub of_verdict : NodeState → ℕ → Option ℕ
@@ -48,10 +47,10 @@ of_verdict (Barred cause) n = None
 of_verdict (Unfinished seen) n = None
 
 -- why a node can't be tested
-abbrev pub bar_text : NodeState → Option (List ℕ)
-bar_text Waiting = None
-bar_text Active = None
-bar_text Confirmed = None
-bar_text Rejected = None
-bar_text (Barred cause) = Some (cause_text (pick_of cause))
-bar_text (Unfinished seen) = None
+abbrev pub bar_cause : NodeState → Option PickCause
+bar_cause Waiting = None
+bar_cause Active = None
+bar_cause Confirmed = None
+bar_cause Rejected = None
+bar_cause (Barred cause) = Some (pick_of cause)
+bar_cause (Unfinished seen) = None

@@ -44,7 +44,3 @@ byte_string bytes = string (encode_utf8_all bytes)
 abbrev pub natural_or_null : Option ℕ → Json
 natural_or_null None = null
 natural_or_null (Some n) = natural n
-
-abbrev pub string_or_null : Option (List ℕ) → Json
-string_or_null None = null
-string_or_null (Some text) = string text

@@ -1,12 +1,10 @@
 //! What a report prints of a hart's end and of a node, field by field.
 
-ghost use Rattle.std.specs.Prelude.{◌≡◌, IfOk, option_map, string_bytes};
-ghost use Rattle.pn_types.specs.Texts.{cause_text};
+ghost use Rattle.std.specs.Prelude.{◌≡◌};
 ghost use Rattle.report.specs.SearchTexts.{pick_of};
-ghost use Rattle.report_json.specs.Fields.{bar_text, of_verdict, seen_by, state_word, stop_code};
+ghost use Rattle.report_json.specs.Fields.{bar_cause, of_verdict, seen_by, state_word, stop_code};
 
-use pn_types::{BarCause, NoMemory, PickCause, StopText};
-use std::alloc::Global;
+use pn_types::{BarCause, PickCause, StopText};
 use w3_search::{Node, NodeState};
 
 /// Returns the number in a hart's end: its status, or the address that it touched.
@@ -37,14 +35,24 @@ pub fn state_word(state: NodeState) -> &'static str
     }
 }
 
-/// Returns how many samples a node has that waits.
-pub fn seen_by(node: &Node) -> Option<u64>
-    ensures { result ≡ seen_by node.now node.now.state }
+/// Returns how many samples a node has that waits, where it took so many.
+pub fn seen_by(state: NodeState, taken: u32) -> Option<u64>
+    ensures { result ≡ seen_by state taken }
 {
-    match node.state {
-        NodeState::Waiting | NodeState::Active => Some(node.seen as u64),
+    match state {
+        NodeState::Waiting | NodeState::Active => Some(taken as u64),
         NodeState::Unfinished(seen) => Some(seen as u64),
         NodeState::Confirmed | NodeState::Rejected | NodeState::Barred(_) => None,
+    }
+}
+
+/// Returns the number of the node that a node refines.
+pub fn parent_of(node: &Node) -> Option<u64>
+    ensures { result ≡ node.now.parent }
+{
+    match node.parent {
+        Some(parent) => Some(parent as u64),
+        None => None,
     }
 }
 
@@ -54,10 +62,8 @@ pub fn of_verdict(state: NodeState, number: u64) -> Option<u64>
 {
     match state {
         NodeState::Confirmed | NodeState::Rejected => Some(number),
-        NodeState::Waiting
-        | NodeState::Active
-        | NodeState::Barred(_)
-        | NodeState::Unfinished(_) => None,
+        NodeState::Waiting | NodeState::Active | NodeState::Barred(_) | NodeState::Unfinished(_) =>
+            None,
     }
 }
 
@@ -77,22 +83,15 @@ fn pick_of(cause: BarCause) -> PickCause
 }
 
 /// Returns why a node can't be tested.
-///
-/// # Errors
-///
-/// `NoMemory` where memory runs out.
-pub fn bar_text(alloc: Global, state: NodeState) -> Result<Option<String>, NoMemory>
-    ensures { IfOk result (λ text. option_map string_bytes text ≡ bar_text state) }
+pub fn bar_cause(state: NodeState) -> Option<PickCause>
+    ensures { result ≡ bar_cause state }
 {
     match state {
-        NodeState::Barred(cause) => {
-            let cause = pick_of(cause);
-            Ok(Some(format!(in alloc; "{cause}")?))
-        }
+        NodeState::Barred(cause) => Some(pick_of(cause)),
         NodeState::Waiting
         | NodeState::Active
         | NodeState::Confirmed
         | NodeState::Rejected
-        | NodeState::Unfinished(_) => Ok(None),
+        | NodeState::Unfinished(_) => None,
     }
 }

@@ -8,5 +8,5 @@ mod search;
 mod shown;
 mod whole;
 
-pub use fields::{bar_text, of_verdict, seen_by, state_word, stop_code};
+pub use fields::{bar_cause, of_verdict, parent_of, seen_by, state_word, stop_code};
 pub use whole::report_json;

@@ -1,15 +1,58 @@
-//! Values of JSON with their names.
+//! Brackets, and values of JSON with their names.
 
-ghost use Rattle.std.specs.Prelude.{◌≡◌, ◌++◌, ◌∷◌, [], IfOk, OnOk, option_map, string_bytes};
+ghost use Rattle.std.specs.Prelude.{◌≡◌, ◌++◌, ◌∷◌, [], IfOk, OnOk, codes, string_bytes};
 ghost use Rattle.std.specs.Str.{encode_utf8_all};
-ghost use Rattle.json.specs.Json.{string};
-ghost use Rattle.json.specs.Token.{key};
+ghost use Rattle.json.specs.Json.{boolean, null, string};
+ghost use Rattle.json.specs.Token.{begin_array, begin_object, end_array, end_object, key};
 ghost use Rattle.json.specs.Tree.{json_tokens};
-ghost use Rattle.report_json.specs.Values.{byte_string, natural, natural_or_null, signed, string_or_null};
+ghost use Rattle.pn_types.specs.Texts.{cause_text};
+ghost use Rattle.report_json.specs.Values.{byte_string, natural, natural_or_null, signed};
 
 use json::Writer;
-use pn_types::NoMemory;
+use pn_types::{NoMemory, PickCause};
 use std::alloc::Global;
+
+/// Begins an object.
+pub(crate) fn begin_object(out: &mut Writer) -> Result<(), NoMemory>
+    ensures before { OnOk result (out.new.before ≡ out.old.before) }
+    ensures tokens { OnOk result (out.new.tokens ≡ out.old.tokens ++ begin_object ∷ []) }
+{
+    out.begin_object()
+}
+
+/// Ends an object.
+pub(crate) fn end_object(out: &mut Writer) -> Result<(), NoMemory>
+    ensures before { OnOk result (out.new.before ≡ out.old.before) }
+    ensures tokens { OnOk result (out.new.tokens ≡ out.old.tokens ++ end_object ∷ []) }
+{
+    out.end_object()
+}
+
+/// Begins an array.
+pub(crate) fn begin_array(out: &mut Writer, name: &str) -> Result<(), NoMemory>
+    ensures before { OnOk result (out.new.before ≡ out.old.before) }
+    ensures tokens { OnOk result (out.new.tokens ≡ out.old.tokens ++ key name.now ∷ begin_array ∷ []) }
+{
+    out.key(name)?;
+    out.begin_array()
+}
+
+/// Ends an array.
+pub(crate) fn end_array(out: &mut Writer) -> Result<(), NoMemory>
+    ensures before { OnOk result (out.new.before ≡ out.old.before) }
+    ensures tokens { OnOk result (out.new.tokens ≡ out.old.tokens ++ end_array ∷ []) }
+{
+    out.end_array()
+}
+
+/// Adds a null.
+pub(crate) fn add_null(out: &mut Writer, name: &str) -> Result<(), NoMemory>
+    ensures before { OnOk result (out.new.before ≡ out.old.before) }
+    ensures tokens { OnOk result (out.new.tokens ≡ out.old.tokens ++ key name.now ∷ json_tokens null) }
+{
+    out.key(name)?;
+    out.null()
+}
 
 /// Adds a number.
 pub(crate) fn add_natural(out: &mut Writer, name: &str, value: u64) -> Result<(), NoMemory>
@@ -21,18 +64,13 @@ pub(crate) fn add_natural(out: &mut Writer, name: &str, value: u64) -> Result<()
 }
 
 /// Adds a number that may be missing.
-pub(crate) fn add_optional(
-    out: &mut Writer,
-    name: &str,
-    value: Option<u64>,
-) -> Result<(), NoMemory>
+pub(crate) fn add_optional(out: &mut Writer, name: &str, value: Option<u64>) -> Result<(), NoMemory>
     ensures before { OnOk result (out.new.before ≡ out.old.before) }
     ensures tokens { OnOk result (out.new.tokens ≡ out.old.tokens ++ key name.now ∷ json_tokens (natural_or_null value)) }
 {
-    out.key(name)?;
     match value {
-        None => out.null(),
-        Some(value) => out.u64(value),
+        None => add_null(out, name),
+        Some(value) => add_natural(out, name, value),
     }
 }
 
@@ -45,6 +83,15 @@ pub(crate) fn add_signed(out: &mut Writer, name: &str, value: u64) -> Result<(),
     out.i64(value.cast_signed())
 }
 
+/// Adds a truth value.
+pub(crate) fn add_boolean(out: &mut Writer, name: &str, value: bool) -> Result<(), NoMemory>
+    ensures before { OnOk result (out.new.before ≡ out.old.before) }
+    ensures tokens { OnOk result (out.new.tokens ≡ out.old.tokens ++ key name.now ∷ json_tokens (boolean value)) }
+{
+    out.key(name)?;
+    out.boolean(value)
+}
+
 /// Adds a text.
 pub(crate) fn add_string(out: &mut Writer, name: &str, text: &str) -> Result<(), NoMemory>
     ensures before { OnOk result (out.new.before ≡ out.old.before) }
@@ -52,22 +99,6 @@ pub(crate) fn add_string(out: &mut Writer, name: &str, text: &str) -> Result<(),
 {
     out.key(name)?;
     out.string(text)
-}
-
-/// Adds a text that may be missing.
-pub(crate) fn add_optional_string(
-    out: &mut Writer,
-    name: &str,
-    text: Option<&str>,
-) -> Result<(), NoMemory>
-    ensures before { OnOk result (out.new.before ≡ out.old.before) }
-    ensures tokens { OnOk result (out.new.tokens ≡ out.old.tokens ++ key name.now ∷ json_tokens (string_or_null (option_map (λ text. text.now) text.entry))) }
-{
-    out.key(name)?;
-    match text {
-        None => out.null(),
-        Some(text) => out.string(text),
-    }
 }
 
 /// Returns the characters of which each has the number of a byte.
@@ -89,4 +120,13 @@ pub(crate) fn add_bytes(
 {
     let text = characters(alloc, bytes)?;
     add_string(out, name, &text)
+}
+
+/// Adds why a metric can't be measured at a focus.
+pub(crate) fn add_cause(alloc: Global, out: &mut Writer, cause: PickCause) -> Result<(), NoMemory>
+    ensures before { OnOk result (out.new.before ≡ out.old.before) }
+    ensures tokens { OnOk result (out.new.tokens ≡ out.old.tokens ++ key (codes "cause") ∷ json_tokens (string (cause_text cause))) }
+{
+    let text = format!(in alloc; "{cause}")?;
+    add_string(out, "cause", &text)
 }

@@ -3,13 +3,16 @@
 ghost use Rattle.std.specs.Prelude.{◌≡◌, ◌++◌, ◌∷◌, [], OnOk, codes, map};
 ghost use Rattle.json.specs.Token.{key};
 ghost use Rattle.json.specs.Tree.{json_tokens};
-ghost use Rattle.report_json.specs.Report.{came_to, node_value, origin, search_or_null, search_value};
+ghost use Rattle.report_json.specs.Report.{came_to, cause_or_null, node_value, origin, search_or_null, search_value};
 ghost use Rattle.report_json.specs.Values.{array_of, named_tokens};
 
-use crate::fields::{bar_text, of_verdict, seen_by, state_word};
-use crate::members::{add_bytes, add_natural, add_optional, add_optional_string, add_string};
+use crate::fields::{bar_cause, of_verdict, parent_of, seen_by, state_word};
+use crate::members::{
+    add_boolean, add_bytes, add_cause, add_natural, add_null, add_optional, add_string,
+    begin_array, begin_object, end_array, end_object,
+};
 use json::Writer;
-use pn_types::NoMemory;
+use pn_types::{NoMemory, PickCause};
 use report::{NodePart, SearchPart};
 use std::alloc::Global;
 use w3_search::Node;
@@ -20,9 +23,20 @@ fn add_origin(alloc: Global, out: &mut Writer, part: &NodePart) -> Result<(), No
     ensures tokens { OnOk result (out.new.tokens ≡ out.old.tokens ++ named_tokens (origin part.now)) }
 {
     add_bytes(alloc, out, "phase", part.phase.bytes())?;
-    add_optional(out, "parent", part.node.parent.map(|parent| parent as u64))?;
+    add_optional(out, "parent", parent_of(&part.node))?;
     add_bytes(alloc, out, "hypothesis", part.hypothesis.bytes())?;
     add_bytes(alloc, out, "focus", part.focus.bytes())
+}
+
+/// Adds why a node can't be tested, if it can't.
+fn add_bar(alloc: Global, out: &mut Writer, cause: Option<PickCause>) -> Result<(), NoMemory>
+    ensures before { OnOk result (out.new.before ≡ out.old.before) }
+    ensures tokens { OnOk result (out.new.tokens ≡ out.old.tokens ++ key (codes "cause") ∷ json_tokens (cause_or_null cause)) }
+{
+    match cause {
+        None => add_null(out, "cause"),
+        Some(cause) => add_cause(alloc, out, cause),
+    }
 }
 
 /// Adds what came of a node.
@@ -31,14 +45,13 @@ fn add_outcome(alloc: Global, out: &mut Writer, node: &Node) -> Result<(), NoMem
     ensures tokens { OnOk result (out.new.tokens ≡ out.old.tokens ++ named_tokens (came_to node.now)) }
 {
     let state = node.state;
-    let cause = bar_text(alloc, state)?;
     add_string(out, "state", state_word(state))?;
-    add_optional(out, "seen", seen_by(node))?;
+    add_optional(out, "seen", seen_by(state, node.seen))?;
     add_optional(out, "value", of_verdict(state, node.value))?;
     add_optional(out, "ticks", of_verdict(state, node.ticks))?;
     add_optional(out, "from", of_verdict(state, node.from))?;
     add_optional(out, "to", of_verdict(state, node.to))?;
-    add_optional_string(out, "cause", cause.as_deref())
+    add_bar(alloc, out, bar_cause(state))
 }
 
 /// Adds a node.
@@ -46,10 +59,10 @@ fn add_node(alloc: Global, out: &mut Writer, part: &NodePart) -> Result<(), NoMe
     ensures before { OnOk result (out.new.before ≡ out.old.before) }
     ensures tokens { OnOk result (out.new.tokens ≡ out.old.tokens ++ json_tokens (node_value part.now)) }
 {
-    out.begin_object()?;
+    begin_object(out)?;
     add_origin(alloc, out, part)?;
     add_outcome(alloc, out, &part.node)?;
-    out.end_object()
+    end_object(out)
 }
 
 /// Adds the nodes, by number.
@@ -57,12 +70,11 @@ fn add_nodes(alloc: Global, out: &mut Writer, parts: &[NodePart]) -> Result<(), 
     ensures before { OnOk result (out.new.before ≡ out.old.before) }
     ensures tokens { OnOk result (out.new.tokens ≡ out.old.tokens ++ key (codes "nodes") ∷ json_tokens (array_of (map node_value parts.now))) }
 {
-    out.key("nodes")?;
-    out.begin_array()?;
+    begin_array(out, "nodes")?;
     for part in parts {
         add_node(alloc, out, part)?;
     }
-    out.end_array()
+    end_array(out)
 }
 
 /// Adds a search.
@@ -70,12 +82,11 @@ fn add_some_search(alloc: Global, out: &mut Writer, part: &SearchPart) -> Result
     ensures before { OnOk result (out.new.before ≡ out.old.before) }
     ensures tokens { OnOk result (out.new.tokens ≡ out.old.tokens ++ json_tokens (search_value part.now)) }
 {
-    out.begin_object()?;
-    out.key("full")?;
-    out.boolean(part.full)?;
+    begin_object(out)?;
+    add_boolean(out, "full", part.full)?;
     add_natural(out, "window", part.window as u64)?;
     add_nodes(alloc, out, part.nodes.as_slice())?;
-    out.end_object()
+    end_object(out)
 }
 
 /// Adds the search, if there was one.

@@ -6,7 +6,10 @@ ghost use Rattle.json.specs.Tree.{json_tokens};
 ghost use Rattle.report_json.specs.Report.{bin_value, refused_value, shown_value};
 ghost use Rattle.report_json.specs.Values.{array_of};
 
-use crate::members::{add_bytes, add_natural, add_optional, add_signed, add_string};
+use crate::members::{
+    add_bytes, add_cause, add_natural, add_optional, add_signed, add_string, begin_array,
+    begin_object, end_array, end_object,
+};
 use fold_hist::Bin;
 use json::Writer;
 use pn_types::NoMemory;
@@ -25,15 +28,13 @@ fn add_refused(alloc: Global, out: &mut Writer, part: &RefusedPart) -> Result<()
     ensures before { OnOk result (out.new.before ≡ out.old.before) }
     ensures tokens { OnOk result (out.new.tokens ≡ out.old.tokens ++ json_tokens (refused_value part.now)) }
 {
-    let cause = part.cause;
-    let text = format!(in alloc; "{cause}")?;
-    out.begin_object()?;
+    begin_object(out)?;
     add_string(out, "wish", wish(part.show))?;
     add_bytes(alloc, out, "metric", part.metric.bytes())?;
     add_bytes(alloc, out, "focus", part.focus.bytes())?;
     add_natural(out, "at", part.at)?;
-    add_string(out, "cause", &text)?;
-    out.end_object()
+    add_cause(alloc, out, part.cause)?;
+    end_object(out)
 }
 
 /// Adds the wishes that were refused, in order.
@@ -45,12 +46,11 @@ pub(crate) fn add_all_refused(
     ensures before { OnOk result (out.new.before ≡ out.old.before) }
     ensures tokens { OnOk result (out.new.tokens ≡ out.old.tokens ++ key (codes "refused") ∷ json_tokens (array_of (map refused_value parts.now))) }
 {
-    out.key("refused")?;
-    out.begin_array()?;
+    begin_array(out, "refused")?;
     for part in parts {
         add_refused(alloc, out, part)?;
     }
-    out.end_array()
+    end_array(out)
 }
 
 /// Adds a bin.
@@ -58,11 +58,11 @@ fn add_bin(out: &mut Writer, bin: &Bin) -> Result<(), NoMemory>
     ensures before { OnOk result (out.new.before ≡ out.old.before) }
     ensures tokens { OnOk result (out.new.tokens ≡ out.old.tokens ++ json_tokens (bin_value bin.now)) }
 {
-    out.begin_object()?;
+    begin_object(out)?;
     add_natural(out, "from", bin.from)?;
     add_natural(out, "to", bin.to)?;
     add_signed(out, "value", bin.sum)?;
-    out.end_object()
+    end_object(out)
 }
 
 /// Adds the bins, by number.
@@ -70,12 +70,11 @@ fn add_bins(out: &mut Writer, bins: &[Bin]) -> Result<(), NoMemory>
     ensures before { OnOk result (out.new.before ≡ out.old.before) }
     ensures tokens { OnOk result (out.new.tokens ≡ out.old.tokens ++ key (codes "bins") ∷ json_tokens (array_of (map bin_value bins.now))) }
 {
-    out.key("bins")?;
-    out.begin_array()?;
+    begin_array(out, "bins")?;
     for bin in bins {
         add_bin(out, bin)?;
     }
-    out.end_array()
+    end_array(out)
 }
 
 /// Adds what was shown of a metric at a focus.
@@ -83,14 +82,14 @@ fn add_shown(alloc: Global, out: &mut Writer, part: &ShownPart) -> Result<(), No
     ensures before { OnOk result (out.new.before ≡ out.old.before) }
     ensures tokens { OnOk result (out.new.tokens ≡ out.old.tokens ++ json_tokens (shown_value part.now)) }
 {
-    out.begin_object()?;
+    begin_object(out)?;
     add_bytes(alloc, out, "metric", part.metric.bytes())?;
     add_bytes(alloc, out, "focus", part.focus.bytes())?;
     add_bytes(alloc, out, "units", part.units.bytes())?;
     add_optional(out, "from", part.from)?;
     add_natural(out, "width", part.width)?;
     add_bins(out, part.bins.as_slice())?;
-    out.end_object()
+    end_object(out)
 }
 
 /// Adds all that was shown, in the order of the admissions.
@@ -102,10 +101,9 @@ pub(crate) fn add_all_shown(
     ensures before { OnOk result (out.new.before ≡ out.old.before) }
     ensures tokens { OnOk result (out.new.tokens ≡ out.old.tokens ++ key (codes "shown") ∷ json_tokens (array_of (map shown_value parts.now))) }
 {
-    out.key("shown")?;
-    out.begin_array()?;
+    begin_array(out, "shown")?;
     for part in parts {
         add_shown(alloc, out, part)?;
     }
-    out.end_array()
+    end_array(out)
 }

@@ -3,9 +3,10 @@
 ghost use Rattle.std.specs.Prelude.{◌≡◌, ◌++◌, ◌∷◌, [], IfOk, OnOk, codes};
 ghost use Rattle.json.specs.Token.{key};
 ghost use Rattle.json.specs.Tree.{json_tokens};
+ghost use Rattle.report_json.specs.Laws.{IsRead};
 ghost use Rattle.report_json.specs.Report.{report_json, report_value};
 
-use crate::members::{add_bytes, add_natural, add_string};
+use crate::members::{add_bytes, add_natural, add_string, begin_object, end_object};
 use crate::run::add_harts;
 use crate::search::add_search;
 use crate::shown::{add_all_refused, add_all_shown};
@@ -25,7 +26,7 @@ fn add_report(
     ensures before { OnOk result (out.new.before ≡ out.old.before) }
     ensures tokens { OnOk result (out.new.tokens ≡ out.old.tokens ++ json_tokens (report_value skipped parts.now)) }
 {
-    out.begin_object()?;
+    begin_object(out)?;
     add_string(out, "format", "paradyn report 1")?;
     add_natural(out, "skipped", skipped as u64)?;
     add_natural(out, "samples", parts.samples)?;
@@ -34,7 +35,7 @@ fn add_report(
     add_all_refused(alloc, out, parts.refused.as_slice())?;
     add_all_shown(alloc, out, parts.shown.as_slice())?;
     add_search(alloc, out, &parts.search)?;
-    out.end_object()
+    end_object(out)
 }
 
 /// Returns a report as one object of JSON, without spaces, and an LF. Bytes that a program or a configuration wrote (its output,
@@ -45,9 +46,10 @@ fn add_report(
 /// # Errors
 ///
 /// `NoMemory` where memory runs out.
-#[tactic(auto, unfolding(crate::specs::Report::report_json))]
+#[tactic(auto, using(crate::proofs::Depths::line_is_read), unfolding(crate::specs::Report::report_json, crate::specs::Report::report_line))]
 pub fn report_json(alloc: Global, skipped: u32, parts: &ReportParts) -> Result<Vec<u8>, NoMemory>
-    ensures { IfOk result (λ text. text.items ≡ report_json skipped parts.now) }
+    ensures text { IfOk result (λ text. text.items ≡ report_json skipped parts.now) }
+    ensures read { OnOk result (IsRead skipped parts.now) }
 {
     let mut out = Writer::new(Vec::new(alloc));
     add_report(alloc, &mut out, skipped, parts)?;

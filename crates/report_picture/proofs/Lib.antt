@@ -1,0 +1,4 @@
+pub mod Ends
+pub mod Safe
+pub mod StepHeights
+pub mod Balance

@@ -29,11 +29,16 @@ first_reaching last (step ∷ steps) = if nat_le last (step * 10) then step else
 unfoldable pub mark_step : ℕ → ℕ
 mark_step last = first_reaching last MARK_STEPS
 
--- a line down to some height, and its tick above it
-unfoldable pub mark : ℕ → ℕ → ℕ → List ℕ
-mark height last tick =
-    codes "<path d=\"M" ++ decimal (20 + place last tick / 10) ++ codes " 34V" ++ decimal height ++ codes "\" stroke=\"#ddd\"/>\n<text x=\""
-    ++ decimal (20 + place last tick / 10) ++ codes "\" y=\"30\" text-anchor=\"middle\" fill=\"#555\">" ++ decimal tick ++ codes "</text>\n"
+-- a line at x down to some height, and a tick above it
+unfoldable pub mark_line : ℕ → ℕ → List ℕ
+mark_line height x = codes "<path d=\"M" ++ decimal x ++ codes " 34V" ++ decimal height ++ codes "\" stroke=\"#ddd\"/>\n"
+
+unfoldable pub mark_text : ℕ → ℕ → List ℕ
+mark_text x tick =
+    codes "<text x=\"" ++ decimal x ++ codes "\" y=\"30\" text-anchor=\"middle\" fill=\"#555\">" ++ decimal tick ++ codes "</text>\n"
+
+abbrev pub mark : ℕ → ℕ → ℕ → List ℕ
+mark height last tick = mark_line height (20 + place last tick / 10) ++ mark_text (20 + place last tick / 10) tick
 
 abbrev pub mark_within : ℕ → ℕ → ℕ → ℕ → List ℕ
 mark_within height last step k = if nat_le (step * k) last then mark height last (step * k) else []

@@ -3,14 +3,13 @@ use Rattle.std.specs.Prelude.{ℕ, ◌+◌, ◌-◌, ◌==◌, nat_lt, zero, suc
 use Rattle.std.specs.Fmt.{decimal}
 use Rattle.std.specs.Option.{option_map_or}
 use Rattle.pn_types.specs.Texts.{address, stop_text}
-use Rattle.report.specs.ShownTexts.{pair_text}
 use Rattle.report.specs.declared.parts.HartPart.{HartPart}
 use Rattle.report.specs.declared.parts.NodePart.{NodePart}
 use Rattle.report.specs.declared.parts.ReportParts.{ReportParts}
 use Rattle.report.specs.declared.parts.SearchPart.{SearchPart}
 use Rattle.report.specs.declared.parts.ShownPart.{ShownPart}
 use Rattle.report_view.specs.Searches.{percent}
-use Rattle.report_picture.specs.Escapes.{escaped}
+use Rattle.report_picture.specs.Escapes.{escaped, escaped_pair}
 use Rattle.report_picture.specs.Labels.{node_name, node_window}
 use Rattle.report_picture.specs.Svg.{nodes_of, svg_head}
 use Rattle.report_picture.specs.TimeLines.{time_lines, time_lines_height}
@@ -20,10 +19,14 @@ use Rattle.report_picture.specs.declared.tree_line.TreeLine.TheVariants.{Phase, 
 
 -- ---- harts
 
+-- how and where it ended
+unfoldable pub end_cells : HartPart → List ℕ
+end_cells part = stop_text part.stop ++ codes "</td><td>" ++ address part.pc
+
 unfoldable pub hart_cells : ℕ → HartPart → List ℕ
 hart_cells n part =
-    codes "<tr><td>" ++ decimal n ++ codes "</td><td>" ++ decimal part.ticks ++ codes "</td><td>" ++ stop_text part.stop ++ codes "</td><td>"
-    ++ address part.pc ++ codes "</td></tr>\n"
+    codes "<tr><td>" ++ decimal n ++ codes "</td><td>" ++ decimal part.ticks ++ codes "</td><td>" ++ end_cells part
+    ++ codes "</td></tr>\n"
 
 abbrev pub hart_table_rows : ℕ → List HartPart → List ℕ
 hart_table_rows n [] = []
@@ -38,7 +41,7 @@ hart_table harts =
 -- what is said of a node, and the hypothesis and the whole focus where it is pointed at
 unfoldable pub node_text : ℕ → NodePart → List ℕ
 node_text depth part =
-    codes "<span title=\"" ++ escaped (pair_text part.hypothesis part.focus) ++ codes "\">" ++ percent part.node.value part.node.ticks
+    codes "<span title=\"" ++ escaped_pair part.hypothesis part.focus ++ codes "\">" ++ percent part.node.value part.node.ticks
     ++ codes " " ++ escaped (node_name depth part) ++ node_window part ++ codes "</span>"
 
 -- a node with nodes below it can be closed, and is open
@@ -66,7 +69,7 @@ html_line parts (Node number depth next) = node_lines parts number depth next
 
 unfoldable pub search_part : List NodePart → List TreeLine → List ℕ
 search_part parts lines =
-    codes "<h2>Search</h2>\n<p>what was true, of " ++ decimal (length parts) ++ codes " nodes</p>\n" ++ flat_map (html_line parts) lines
+    codes "<h2>What was true, of " ++ decimal (length parts) ++ codes " nodes of the search</h2>\n" ++ flat_map (html_line parts) lines
 
 abbrev pub search_of : Option SearchPart → List TreeLine → List ℕ
 search_of None lines = []
@@ -82,14 +85,23 @@ some_lines_part shown =
 unfoldable pub time_lines_part : List ShownPart → List ℕ
 time_lines_part shown = if length shown == 0 then [] else some_lines_part shown
 
-unfoldable pub page_head : List ℕ
-page_head =
-    codes "<!DOCTYPE html>\n<html lang=\"en\">\n<head>\n<meta charset=\"utf-8\">\n" 
+unfoldable pub page_meta : List ℕ
+page_meta =
+    codes "<!DOCTYPE html>\n<html lang=\"en\">\n<head>\n<meta charset=\"utf-8\">\n"
     ++ codes "<meta name=\"viewport\" content=\"width=device-width, initial-scale=1\">\n<title>Report of a run</title>\n"
-    ++ codes "<style>\nbody{max-width:1100px;margin:0 auto;padding:0 1em;font:14px/1.5 monospace;color:#222;background:#fff}\n"
-    ++ codes "h3{margin:1em 0 0}\np{margin:0}\ndetails{margin-left:1em}\ndetails p{margin-left:2em}\np,summary{overflow-wrap:anywhere}\n"
-    ++ codes "table{border-collapse:collapse;max-width:100%}\nth,td{padding:0 1em 0 0;text-align:left}\n"
+
+unfoldable pub page_style : List ℕ
+page_style =
+    codes "<style>\nbody{max-width:1100px;margin:0 auto;padding:0 1em;font:14px/1.5 monospace;color:#222;background:#fff}\n"
+    ++ codes "h3{margin:1em 0 0}\np{margin:0 0 0 2em}\ndetails{margin-left:1em}\np,summary{overflow-wrap:anywhere}\n"
+
+unfoldable pub page_start : List ℕ
+page_start =
+    codes "table{border-collapse:collapse;max-width:100%}\nth,td{padding:0 1em 0 0;text-align:left}\n"
     ++ codes "div{max-width:100%;overflow-x:auto}\nsvg{display:block;width:100%;min-width:800px}\n</style>\n</head>\n<body>\n<h1>Report of a run</h1>\n"
+
+unfoldable pub page_head : List ℕ
+page_head = page_meta ++ page_style ++ page_start
 
 unfoldable pub page : ReportParts → List TreeLine → List ℕ
 page parts lines =

@@ -3,7 +3,6 @@ use Rattle.std.specs.Prelude.{ℕ, List, [], ◌++◌, codes, length, take}
 use Rattle.std.specs.Fmt.{decimal}
 use Rattle.fold_hist.specs.Bins.{hist_of, Histogram}
 use Rattle.pn_types.specs.Texts.{address, stop_text}
-use Rattle.report.specs.ShownTexts.{pair_text}
 use Rattle.report.specs.declared.parts.HartPart.{HartPart}
 use Rattle.report.specs.declared.parts.NodePart.{NodePart}
 use Rattle.report.specs.declared.parts.ShownPart.{ShownPart}
@@ -24,14 +23,14 @@ unfoldable pub histogram_name : ShownPart → List ℕ
 histogram_name s = s.metric ++ codes " in " ++ s.units ++ codes ", " ++ short_focus s.focus
 
 -- the steps that are drawn of bins: which are joined, each two of them, each four, and so on, until there are at most 512
-abbrev pub steps_of : ShownPart → Histogram
+unfoldable pub steps_of : ShownPart → Histogram
 steps_of s = hist_of 512 (take most_bins s.bins)
 
 -- the sum, the greatest bin, how many bins there are, and how many of them a step joins
-unfoldable pub histogram_sums : ShownPart → List ℕ
-histogram_sums s =
+unfoldable pub histogram_sums : ℕ → ShownPart → List ℕ
+histogram_sums width s =
     codes "sum " ++ signed_number (sum_of (bin_values s.bins)) ++ codes ", greatest bin " ++ signed_number (greatest (bin_values s.bins))
-    ++ codes ", bins " ++ decimal (length s.bins) ++ codes ", bins in a step " ++ decimal (steps_of s).width
+    ++ codes ", bins " ++ decimal (length s.bins) ++ codes ", bins in a step " ++ decimal width
 
 -- ---- nodes
 

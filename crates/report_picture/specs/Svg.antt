@@ -2,13 +2,12 @@
 use Rattle.std.specs.Prelude.{ℕ, ◌+◌, ◌*◌, Option, Some, None, List, [], ◌∷◌, ◌++◌, codes, length, slice_get}
 use Rattle.std.specs.Fmt.{decimal}
 use Rattle.std.specs.Option.{option_map_or}
-use Rattle.report.specs.ShownTexts.{pair_text}
 use Rattle.report.specs.declared.parts.HartPart.{HartPart}
 use Rattle.report.specs.declared.parts.NodePart.{NodePart}
 use Rattle.report.specs.declared.parts.ReportParts.{ReportParts}
 use Rattle.report.specs.declared.parts.SearchPart.{SearchPart}
 use Rattle.report_view.specs.Searches.{percent}
-use Rattle.report_picture.specs.Escapes.{clipped, escaped}
+use Rattle.report_picture.specs.Escapes.{clipped, escaped, escaped_pair}
 use Rattle.report_picture.specs.Labels.{hart_name, node_name, node_window}
 use Rattle.report_picture.specs.TimeLines.{time_lines, time_lines_height}
 use Rattle.report_picture.specs.TreeLines.{tree_lines}
@@ -46,7 +45,7 @@ phase_row n part = codes "<text x=\"20\" y=\"" ++ decimal (n * 18 + 40) ++ codes
 -- the hypothesis and the whole focus where it is pointed at, the share, and the name and the window, 12 pixels on for each node above
 unfoldable pub node_row : ℕ → ℕ → NodePart → List ℕ
 node_row n depth part =
-    codes "<g transform=\"translate(20 " ++ decimal (n * 18 + 40) ++ codes ")\"><title>" ++ escaped (pair_text part.hypothesis part.focus)
+    codes "<g transform=\"translate(20 " ++ decimal (n * 18 + 40) ++ codes ")\"><title>" ++ escaped_pair part.hypothesis part.focus
     ++ codes "</title>\n<text x=\"50\" text-anchor=\"end\">" ++ percent part.node.value part.node.ticks
     ++ codes "</text>\n<text x=\"" ++ decimal (depth * 12 + 62) ++ codes "\">" ++ escaped (clipped (node_name depth part))
     ++ node_window part ++ codes "</text></g>\n"

@@ -2,12 +2,11 @@
 use Rattle.std.specs.Prelude.{ℕ, ◌+◌, ◌-◌, ◌*◌, ◌/◌, ◌==◌, if◌then◌else◌, List, [], ◌∷◌, ◌++◌, codes, flat_map, length}
 use Rattle.std.specs.Fmt.{decimal}
 use Rattle.fold_hist.specs.declared.bin.Bin.{Bin}
-use Rattle.report.specs.ShownTexts.{pair_text}
 use Rattle.report.specs.declared.parts.ShownPart.{ShownPart}
 use Rattle.report_view.specs.Bars.{bin_values, positive}
 use Rattle.report_view.specs.Signed.{greatest, is_negative}
 use Rattle.report_picture.specs.Axis.{end_of_shown, marks, place}
-use Rattle.report_picture.specs.Escapes.{clipped, escaped}
+use Rattle.report_picture.specs.Escapes.{clipped, escaped, escaped_pair}
 use Rattle.report_picture.specs.Labels.{histogram_name, histogram_sums, steps_of}
 
 -- ---- steps
@@ -34,7 +33,7 @@ steps last bins = flat_map (step last (positive (greatest (bin_values bins)))) b
 -- its sums, and its step line in tenths of a pixel
 unfoldable pub line_of_steps : ℕ → ShownPart → List ℕ
 line_of_steps last s =
-    codes "<text y=\"28\" fill=\"#555\">" ++ histogram_sums s
+    codes "<text y=\"28\" fill=\"#555\">" ++ histogram_sums (steps_of s).width s
     ++ codes "</text>\n<path transform=\"translate(0 34) scale(.1)\" fill=\"#2563a8\" d=\"" ++ steps last (steps_of s).bins
     ++ codes "\"/>\n<path d=\"M0 74.5H940\" stroke=\"#888\"/>\n"
 
@@ -45,7 +44,7 @@ line_or_none last s =
 -- its metric and the whole focus where it is pointed at, its name, and its line
 unfoldable pub time_line : ℕ → ℕ → ShownPart → List ℕ
 time_line last n s =
-    codes "<g transform=\"translate(20 " ++ decimal (n * 84 + 40) ++ codes ")\"><title>" ++ escaped (pair_text s.metric s.focus)
+    codes "<g transform=\"translate(20 " ++ decimal (n * 84 + 40) ++ codes ")\"><title>" ++ escaped_pair s.metric s.focus
     ++ codes "</title>\n<rect width=\"940\" height=\"80\" fill=\"none\" pointer-events=\"all\"/>\n<text y=\"14\" font-weight=\"bold\">"
     ++ escaped (clipped (histogram_name s)) ++ codes "</text>\n" ++ line_or_none last s ++ codes "</g>\n"
 

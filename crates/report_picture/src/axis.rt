@@ -1,8 +1,9 @@
 //! The axis of time that all histograms share.
 
 ghost use Rattle.std.specs.Prelude.{◌≡◌, ◌++◌, ◌*◌, ◌≤◌, OnOk, flat_map};
-ghost use Rattle.report_picture.specs.Axis.{end_of_bins, end_of_shown, first_reaching, mark, mark_step, mark_within, marks, place};
+ghost use Rattle.report_picture.specs.Axis.{end_of_bins, end_of_shown, first_reaching, mark, mark_line, mark_step, mark_text, mark_within, marks, place};
 
+use crate::labels::add_number;
 use fold_hist::Bin;
 use pn_types::NoMemory;
 use report::ShownPart;
@@ -122,8 +123,28 @@ fn mark_step(end: u64) -> u64
     first_reaching(end, &MARK_STEPS)
 }
 
+/// Adds the line of a mark at so many pixels.
+#[tactic(auto, unfolding(crate::specs::Axis::mark_line))]
+fn add_mark_line(alloc: Global, out: &mut Vec<u8>, height: u128, x: u128) -> Result<(), NoMemory>
+    ensures { OnOk result (out.new.items ≡ out.old.items ++ mark_line height x) }
+{
+    add_number(alloc, out, b"<path d=\"M", x)?;
+    add_number(alloc, out, b" 34V", height)?;
+    out.extend_from_slice(b"\" stroke=\"#ddd\"/>\n")
+}
+
+/// Adds the tick of a mark at so many pixels.
+#[tactic(auto, unfolding(crate::specs::Axis::mark_text))]
+fn add_mark_text(alloc: Global, out: &mut Vec<u8>, x: u128, tick: u64) -> Result<(), NoMemory>
+    ensures { OnOk result (out.new.items ≡ out.old.items ++ mark_text x tick) }
+{
+    add_number(alloc, out, b"<text x=\"", x)?;
+    let label = b"\" y=\"30\" text-anchor=\"middle\" fill=\"#555\">";
+    add_number(alloc, out, label, tick as u128)?;
+    out.extend_from_slice(b"</text>\n")
+}
+
 /// Adds the mark of a tick.
-#[tactic(auto, unfolding(crate::specs::Axis::mark))]
 fn add_mark(
     alloc: Global,
     out: &mut Vec<u8>,
@@ -134,10 +155,8 @@ fn add_mark(
     ensures { OnOk result (out.new.items ≡ out.old.items ++ mark height end tick) }
 {
     let x = 20 + place(end, tick) / 10;
-    let line = format!(in alloc; "<path d=\"M{x} 34V{height}\" stroke=\"#ddd\"/>\n")?;
-    let text = format!(in alloc; "<text x=\"{x}\" y=\"30\" text-anchor=\"middle\" fill=\"#555\">{tick}</text>\n")?;
-    out.extend_from_slice(line.as_bytes())?;
-    out.extend_from_slice(text.as_bytes())
+    add_mark_line(alloc, out, height, x)?;
+    add_mark_text(alloc, out, x, tick)
 }
 
 /// Returns a product.

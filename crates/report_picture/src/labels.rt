@@ -3,12 +3,8 @@
 ghost use Rattle.std.specs.Prelude.{◌≡◌, ◌++◌, ◌≤◌, ◌^◌, IfOk, OnOk, length, take};
 ghost use Rattle.std.specs.Fmt.{decimal};
 ghost use Rattle.fold_hist.specs.Bins.{hist_of};
-ghost use Rattle.report.specs.ShownTexts.{pair_text};
-ghost use Rattle.report_picture.specs.Escapes.{escaped};
 ghost use Rattle.report_picture.specs.Labels.{hart_name, histogram_name, histogram_sums, node_name, node_window, steps_of};
-ghost use Rattle.report_view.specs.Searches.{hypothesis_text};
 
-use crate::escapes::add_escaped;
 use fold_hist::{Bin, Hist};
 use pn_types::NoMemory;
 use report::{HartPart, NodePart, ShownPart};
@@ -30,19 +26,6 @@ pub fn add_number(
 {
     out.extend_from_slice(label)?;
     out.extend_from_slice(format!(in alloc; "{number}")?.as_bytes())
-}
-
-/// Adds a name at a focus, escaped.
-///
-/// # Errors
-///
-/// `NoMemory` where memory runs out.
-pub fn add_pair(out: &mut Vec<u8>, name: &[u8], focus: &[u8]) -> Result<(), NoMemory>
-    ensures { OnOk result (out.new.items ≡ out.old.items ++ escaped (pair_text name.now focus.now)) }
-{
-    add_escaped(out, name)?;
-    add_escaped(out, b" ")?;
-    add_escaped(out, focus)
 }
 
 /// Adds a hart's ticks, and how and where it ended.
@@ -84,12 +67,12 @@ pub fn histogram_name(alloc: Global, part: &ShownPart) -> Result<Vec<u8>, NoMemo
     Ok(name)
 }
 
-/// Returns the first of some bins, of which there are at most 2^32.
-fn first_bins(bins: &[Bin]) -> &[Bin]
-    ensures items { result.now ≡ take (2 ^ 32) bins.now }
-    ensures bound { length result.now ≤ 2 ^ 32 }
+/// Returns the first so many of some bins.
+fn first_bins(bins: &[Bin], most: usize) -> &[Bin]
+    ensures items { result.now ≡ take most bins.now }
+    ensures bound { length result.now ≤ most }
 {
-    bins.split_at(bins.len().min(4_294_967_296)).0
+    bins.split_at(bins.len().min(most)).0
 }
 
 /// Returns bins, which are joined until there are at most 512.
@@ -109,13 +92,14 @@ fn joined(alloc: Global, bins: &[Bin]) -> Result<Hist, NoMemory>
 /// # Errors
 ///
 /// `NoMemory` where memory runs out.
+#[tactic(auto, unfolding(crate::specs::Labels::steps_of))]
 pub fn steps_of(alloc: Global, part: &ShownPart) -> Result<Hist, NoMemory>
     ensures { IfOk result (λ hist. hist ≡ steps_of part.now) }
 {
-    joined(alloc, first_bins(part.bins.as_slice()))
+    joined(alloc, first_bins(part.bins.as_slice(), 4_294_967_296))
 }
 
-/// Adds the sum of a histogram's bins, the greatest, how many there are, and how many of them one of its steps joins.
+/// Adds the sum of a histogram's bins, the greatest, how many there are, and how many of them a step of this width joins.
 ///
 /// # Errors
 ///
@@ -125,10 +109,9 @@ pub fn add_histogram_sums(
     alloc: Global,
     out: &mut Vec<u8>,
     part: &ShownPart,
-    steps: &Hist,
+    width: u64,
 ) -> Result<(), NoMemory>
-    requires { steps.now ≡ steps_of part.now }
-    ensures { OnOk result (out.new.items ≡ out.old.items ++ histogram_sums part.now) }
+    ensures { OnOk result (out.new.items ≡ out.old.items ++ histogram_sums width part.now) }
 {
     let values = bin_values(alloc, part.bins.as_slice())?;
     out.extend_from_slice(b"sum ")?;
@@ -136,7 +119,7 @@ pub fn add_histogram_sums(
     out.extend_from_slice(b", greatest bin ")?;
     add_signed(alloc, out, greatest(&values))?;
     add_number(alloc, out, b", bins ", values.len() as u128)?;
-    add_number(alloc, out, b", bins in a step ", steps.width() as u128)
+    add_number(alloc, out, b", bins in a step ", width as u128)
 }
 
 /// Returns the hypothesis of a node, at a root, and its focus.

@@ -5,8 +5,8 @@ ghost use Rattle.std.specs.Option.{option_map, option_map_or};
 ghost use Rattle.report_picture.specs.Svg.{hart_line, hart_lines, harts_height, moved_down, node_row, nodes_of, phase_row, picture, report_svg, search_of, search_rows, svg_head, tree_row, tree_rows};
 ghost use Rattle.report_picture.specs.TimeLines.{time_lines};
 
-use crate::escapes::{add_clipped, add_escaped};
-use crate::labels::{add_hart_name, add_node_window, add_number, add_pair, node_name};
+use crate::escapes::{add_clipped, add_pair};
+use crate::labels::{add_hart_name, add_node_window, add_number, node_name};
 use crate::time_lines::{add_time_lines, time_lines_height};
 use crate::tree_line::TreeLine;
 use crate::tree_lines::{node_at, tree_lines};
@@ -24,10 +24,10 @@ use std::alloc::Global;
 pub fn add_svg_head(alloc: Global, out: &mut Vec<u8>, height: u128) -> Result<(), NoMemory>
     ensures { OnOk result (out.new.items ≡ out.old.items ++ svg_head height) }
 {
-    out.extend_from_slice(b"<svg xmlns=\"http://www.w3.org/2000/svg\" viewBox=\"0 0 1000 ")?;
-    add_number(alloc, out, b"", height)?;
-    out.extend_from_slice(b"\" font-family=\"monospace\" font-size=\"12\" fill=\"#222\">\n<title>Report of a run</title>\n<rect width=\"1000\" height=\"")?;
-    add_number(alloc, out, b"", height)?;
+    let view = b"<svg xmlns=\"http://www.w3.org/2000/svg\" viewBox=\"0 0 1000 ";
+    let font = b"\" font-family=\"monospace\" font-size=\"12\" fill=\"#222\">\n<title>Report of a run</title>\n<rect width=\"1000\" height=\"";
+    add_number(alloc, out, view, height)?;
+    add_number(alloc, out, font, height)?;
     out.extend_from_slice(b"\" fill=\"#fff\"/>\n")
 }
 

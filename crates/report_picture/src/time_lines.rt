@@ -4,8 +4,8 @@ ghost use Rattle.std.specs.Prelude.{◌≡◌, ◌++◌, OnOk, flat_map};
 ghost use Rattle.report_picture.specs.TimeLines.{line_of_steps, line_or_none, some_time_lines, step, step_height, step_top, steps, time_line, time_lines, time_lines_from, time_lines_height};
 
 use crate::axis::{add_marks, end_of_shown, place};
-use crate::escapes::add_clipped;
-use crate::labels::{add_histogram_sums, add_number, add_pair, histogram_name, steps_of};
+use crate::escapes::{add_clipped, add_pair};
+use crate::labels::{add_histogram_sums, add_number, histogram_name, steps_of};
 use fold_hist::Bin;
 use pn_types::NoMemory;
 use report::ShownPart;
@@ -77,7 +77,7 @@ fn add_line_of_steps(
 {
     let hist = steps_of(alloc, part)?;
     out.extend_from_slice(b"<text y=\"28\" fill=\"#555\">")?;
-    add_histogram_sums(alloc, out, part, &hist)?;
+    add_histogram_sums(alloc, out, part, hist.width())?;
     out.extend_from_slice(
         b"</text>\n<path transform=\"translate(0 34) scale(.1)\" fill=\"#2563a8\" d=\"",
     )?;

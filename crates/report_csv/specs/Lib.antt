@@ -1,0 +1,4 @@
+pub mod Cells
+pub mod Writers
+pub mod Report
+pub mod Laws

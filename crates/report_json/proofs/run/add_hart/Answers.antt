@@ -1,0 +1,16 @@
+use Rattle.std.proofs.Common.{append_assoc}
+use Rattle.std.proofs.lemmas.Result.{IfOk-equal}
+use Rattle.report_json.proofs.run.add_hart.Goals as goal
+
+pub returns-clause-tokens : goal.returns-clause-tokens
+returns-clause-tokens c =
+    IfOk-equal _ _ _ _ c.end_object.ensures.tokens
+    (rw (
+      c.in_ok-add_natural-2.ensures.tokens,
+      c.in_ok-add_optional.ensures.tokens,
+      c.in_ok-add_stop.ensures.tokens,
+      c.in_ok-add_natural.ensures.tokens,
+      c.in_ok-begin_object.ensures.tokens,
+      c.stop_code.ensures,
+    )
+    (simp append_assoc))

@@ -1,0 +1,19 @@
+use Rattle.std.proofs.Common.{append_assoc}
+use Rattle.std.proofs.lemmas.Result.{IfOk-equal}
+use Rattle.report_json.proofs.shown.add_refused.Goals as goal
+
+pub returns-clause-tokens : goal.returns-clause-tokens
+returns-clause-tokens c =
+    IfOk-equal _ _ _ _ c.end_object.ensures.tokens
+    (rw (
+      c.in_ok-add_cause.ensures.tokens,
+      c.in_ok-add_natural.ensures.tokens,
+      c.in_ok-add_bytes-2.ensures.tokens,
+      c.in_ok-add_bytes.ensures.tokens,
+      c.in_ok-add_string.ensures.tokens,
+      c.in_ok-begin_object.ensures.tokens,
+      c.bytes.ensures,
+      c.bytes-2.ensures,
+      c.wish.ensures,
+    )
+    (simp append_assoc))
