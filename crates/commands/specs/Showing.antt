@@ -8,6 +8,10 @@ use Rattle.command_words.specs.declared.requests.ViewFormat.TheVariants.{Ascii, 
 use Rattle.refusals.specs.Refusals.{Step, Then}
 use Rattle.refusals.specs.declared.fault.Fault.{Fault}
 use Rattle.refusals.specs.declared.fault.Fault.TheVariants.{BadReport}
+use Rattle.report_csv.specs.Report.{report_csv}
+use Rattle.report_json.specs.Report.{report_json}
+use Rattle.report_picture.specs.Html.{report_html}
+use Rattle.report_picture.specs.Svg.{report_svg}
 use Rattle.report_reader.specs.Reading.{report_in}
 use Rattle.report_reader.specs.declared.whole_report.Report.{Report}
 use Rattle.report_view.specs.View.{report_view}
@@ -20,10 +24,10 @@ use Rattle.commands.specs.declared.texts.Texts.{Texts}
 abbrev pub view_in : ViewFormat → ℕ → Report → List ℕ
 view_in Blocks columns r = report_view false columns r.parts
 view_in Ascii columns r = report_view true columns r.parts
-view_in Json columns r = report_view true columns r.parts
-view_in Csv columns r = report_view true columns r.parts
-view_in Svg columns r = report_view true columns r.parts
-view_in Html columns r = report_view true columns r.parts
+view_in Json columns r = report_json r.skipped r.parts
+view_in Csv columns r = report_csv r.skipped r.parts
+view_in Svg columns r = report_svg r.parts
+view_in Html columns r = report_html r.parts
 
 abbrev pub view_of : ShowRequest → Report → List ℕ
 view_of q r = view_in q.format q.columns r

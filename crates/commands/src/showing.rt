@@ -15,6 +15,9 @@ use command_words::{ShowRequest, ViewFormat};
 use outside::Files;
 use pn_types::NoMemory;
 use refusals::{Fault, Refusal};
+use report_csv::report_csv;
+use report_json::report_json;
+use report_picture::{report_html, report_svg};
 use report_reader::{Report, read_report};
 use report_view::report_view;
 use std::alloc::Global;
@@ -33,10 +36,10 @@ fn view_in(
     match format {
         ViewFormat::Blocks => report_view(alloc, false, columns, parts),
         ViewFormat::Ascii => report_view(alloc, true, columns, parts),
-        ViewFormat::Json => report_view(alloc, true, columns, parts),
-        ViewFormat::Csv => report_view(alloc, true, columns, parts),
-        ViewFormat::Svg => report_view(alloc, true, columns, parts),
-        ViewFormat::Html => report_view(alloc, true, columns, parts),
+        ViewFormat::Json => report_json(alloc, report.skipped, parts),
+        ViewFormat::Csv => report_csv(alloc, report.skipped, parts),
+        ViewFormat::Svg => report_svg(alloc, parts),
+        ViewFormat::Html => report_html(alloc, parts),
     }
 }
 

@@ -37,7 +37,7 @@ refused : (n : ℕ) (parts : List RefusedPart) → HaveCells (refused_rows n par
 refused n [] = tt
 refused n (part ∷ parts) = (refl, refused (n + 1) parts)
 
-bins : (histogram n : ℕ) (more : List Bin) → HaveCells (bin_rows histogram n all)
+bins : (histogram n : ℕ) (more : List Bin) → HaveCells (bin_rows histogram n more)
 bins histogram n [] = tt
 bins histogram n (bin ∷ more) = (refl, bins histogram (n + 1) more)
 
@@ -57,7 +57,7 @@ run : (skipped : ℕ) (parts : ReportParts) → HaveCells (run_rows skipped part
 run skipped parts = (refl, (refl, (refl, both (hart_rows 0 parts.harts) _ (harts 0 parts.harts) (refl, tt))))
 
 all : (w x y z : List (List (List ℕ))) → HaveCells w → HaveCells x → HaveCells y → HaveCells z → HaveCells (names ∷ w ++ x ++ y ++ z)
-all w x y z a b c d = (refl, both w (x ++ y ++ z) a (both x (y ++ z) b (both y z c d)))
+all w x y z a b c d = (refl, both (w ++ x ++ y) z (both (w ++ x) y (both w x a b) c) d)
 
 all_rows : (skipped : ℕ) (parts : ReportParts) → HaveCells (report_rows skipped parts)
 all_rows skipped parts =

@@ -91,7 +91,7 @@ fn add_node(
         &Cells {
             kind: b"node",
             number: number(alloc, at as u64)?,
-            name: text(alloc, part.hypothesis.bytes())?,
+            name: text(alloc, part.focus.bytes())?,
             focus: text(alloc, part.focus.bytes())?,
             phase: text(alloc, part.phase.bytes())?,
             parent: optional(alloc, parent_of(node))?,
