@@ -4,8 +4,8 @@ ghost use Rattle.std.specs.Prelude.{◌≡◌, ◌<◌, ◌≤◌, ◌^◌, IfOk
 ghost use Rattle.profile_reader.specs.Reading.{ReadsProfile, adds_up, common_len, is_spelled, profile_in, profile_spelling};
 
 use crate::line_kinds::lines_of;
-use crate::read_lines::profile_of_lines;
 use crate::profile::ReadProfile;
+use crate::read_lines::profile_of_lines;
 use crate::spelling::spelling;
 use advice::{ReportError, ReportFault};
 use report::HartPart;

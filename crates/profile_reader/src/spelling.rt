@@ -11,11 +11,7 @@ use report::add_harts;
 use std::alloc::Global;
 
 /// Adds the first line.
-fn add_run_line(
-    alloc: Global,
-    out: &mut Vec<u8>,
-    profile: &ReadProfile,
-) -> Result<(), NoMemory>
+fn add_run_line(alloc: Global, out: &mut Vec<u8>, profile: &ReadProfile) -> Result<(), NoMemory>
     ensures { OnOk result (out.new.items ≡ out.old.items ++ read_run_line profile.now) }
 {
     add_run_ticks(alloc, out, profile.harts.as_slice().len(), profile.ticks)?;
@@ -62,7 +58,12 @@ pub(crate) fn spelling(alloc: Global, profile: &ReadProfile) -> Result<Vec<u8>, 
     add_run_line(alloc, &mut out, profile)?;
     add_harts(alloc, &mut out, profile.harts.as_slice())?;
     add_procedures(alloc, &mut out, profile.procedures.as_slice())?;
-    add_rest(alloc, &mut out, profile.rest_words as usize, profile.rest_ticks)?;
+    add_rest(
+        alloc,
+        &mut out,
+        profile.rest_words as usize,
+        profile.rest_ticks,
+    )?;
     out.extend_from_slice(profile.others.bytes())?;
     Ok(out)
 }

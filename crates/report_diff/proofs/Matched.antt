@@ -85,14 +85,14 @@ module _ (f : Match → List ℕ) (names others : List (List ℕ)) where
       let p : place + zero ≡ place = omega arith in
       let first2 : first_place x names ≡ Some place = cc in
       let e : flat_map f (match_at names others place x) ++ flat_map f (matches_from names others (place + 1) rest) ≡ [] =
-          sym (flat_map-append f (match_at names others place x) (matches_from names others (place + 1) rest)) ∙ none in
+      sym (flat_map-append f (match_at names others place x) (matches_from names others (place + 1) rest)) ∙ none in
       let g : flat_map f (match_at names others place x) ≡ [] = front_none _ _ e in
       let h : f (matched place x) ++ [] ≡ [] = sym (ap (flat_map f) (here place x first2)) ∙ g in
       ap (λ (n : ℕ). f (matched n name)) p ∙ ap (λ (z : List ℕ). f (matched place z)) (sym same) ∙ front_none (f (matched place x)) [] h
   each_from place (x ∷ rest) (suc k) name at first none =
       let p : place + suc k ≡ (place + 1) + k = omega arith in
       let e : flat_map f (match_at names others place x) ++ flat_map f (matches_from names others (place + 1) rest) ≡ [] =
-          sym (flat_map-append f (match_at names others place x) (matches_from names others (place + 1) rest)) ∙ none in
+      sym (flat_map-append f (match_at names others place x) (matches_from names others (place + 1) rest)) ∙ none in
       ap (λ (n : ℕ). f (matched n name)) p
       ∙ each_from (place + 1) rest k name at (first ∙ ap (λ (n : ℕ). Some n) p) (back_none _ _ e)
 

@@ -43,8 +43,8 @@ module _ {X : Type 0} (name_of lone : X → List ℕ) (xs : List X) (others : Li
       by (Some j) e x at none = ap is_some e
       by None e x at none =
           let g : lone x ≡ [] =
-              sym (ap (λ (o : Option X). option_map_or lone o []) at)
-              ∙ sym (ap (λ (o : Option ℕ). option_map_or (λ other. []) o (option_map_or lone (slice_get xs k) [])) e) ∙ none in
+          sym (ap (λ (o : Option X). option_map_or lone o []) at)
+          ∙ sym (ap (λ (o : Option ℕ). option_map_or (λ other. []) o (option_map_or lone (slice_get xs k) [])) e) ∙ none in
           absurd (due x g)
 
   pub alone_none : AllStand (map name_of xs) others → flat_map (alone_text lone xs) (matches_of (map name_of xs) others) ≡ []
@@ -73,12 +73,12 @@ module _ {X V : Type 0} (value : X → V) (name_of : X → List ℕ) (text : X �
           let x = thing_there name_of olds name k e in
           let y = thing_there name_of news name j f in
           let t : option_map_or (λ old. option_map_or (λ other. option_map_or (text old) (slice_get news other) []) (first_place name (map name_of news)) []) (slice_get olds k) [] ≡ [] =
-              each (both_text text olds news) (map name_of olds) (map name_of news) name k e none in
+          each (both_text text olds news) (map name_of olds) (map name_of news) name k e none in
           let g : text x.0 y.0 ≡ [] =
-              sym (ap (λ (o : Option X). option_map_or (text x.0) o []) y.1)
-              ∙ sym (ap (λ (p : Option ℕ). option_map_or (λ other. option_map_or (text x.0) (slice_get news other) []) p []) f)
-              ∙ sym (ap (λ (o : Option X). option_map_or (λ old. option_map_or (λ other. option_map_or (text old) (slice_get news other) []) (first_place name (map name_of news)) []) o []) x.1)
-              ∙ t in
+          sym (ap (λ (o : Option X). option_map_or (text x.0) o []) y.1)
+          ∙ sym (ap (λ (p : Option ℕ). option_map_or (λ other. option_map_or (text x.0) (slice_get news other) []) p []) f)
+          ∙ sym (ap (λ (o : Option X). option_map_or (λ old. option_map_or (λ other. option_map_or (text old) (slice_get news other) []) (first_place name (map name_of news)) []) o []) x.1)
+          ∙ t in
           ap (option_map value) x.1 ∙ ap (λ (v : V). Some v) (same x.0 y.0 g) ∙ sym (ap (option_map value) y.1)
 
 -- of a list and itself no line is due

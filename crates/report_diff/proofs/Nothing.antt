@@ -119,7 +119,7 @@ harts : (olds news : List HartPart) → harts_diff olds news ≡ [] → HartsSam
 unfolding harts_diff
 harts olds news none =
     let n = each_none (ticks_table olds news (hart_rows olds news)) (harts_in_both hart_end_line news 0 olds)
-        (lone_harts (codes "OLD") (length news) 0 olds) (lone_harts (codes "NEW") (length olds) 0 news) none in
+    (lone_harts (codes "OLD") (length news) 0 olds) (lone_harts (codes "NEW") (length olds) 0 news) none in
     let rows = no_rows olds news (hart_rows olds news) n.first in
     record {
       ticks = by_hart (λ part. part.ticks) hart_ticks_row ticks_same olds news rows n.third n.fourth;

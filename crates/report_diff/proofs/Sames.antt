@@ -90,7 +90,7 @@ sums_none : (rows : List ℕ) (same : ℕ) (gone added : List ℕ) → rows ≡ 
 unfolding sums_section
 sums_none rows same gone added d e f =
     let t : (is_none rows && (is_none gone && is_none added)) ≡ true =
-        ap (λ (z : List ℕ). is_none z && (is_none gone && is_none added)) d ∙ ap (λ (z : List ℕ). is_none z && is_none added) e ∙ ap is_none f in
+    ap (λ (z : List ℕ). is_none z && (is_none gone && is_none added)) d ∙ ap (λ (z : List ℕ). is_none z && is_none added) e ∙ ap is_none f in
     if_true (is_none rows && (is_none gone && is_none added)) [] _ t
 
 abbrev pub shown_name : ShownPart → List ℕ
@@ -131,7 +131,7 @@ if_alone b = cond b (0 ∷ []) []
 none_counted : (names : List (List ℕ)) → count_by is_alone (matches_of names names) ≡ 0
 none_counted names =
     let m : marks is_alone (matches_of names names) ≡ [] =
-        all (λ m. if_alone (is_alone m)) names names (λ name k first. ap (λ (o : Option ℕ). if_alone (not (is_some o))) first) in
+    all (λ m. if_alone (is_alone m)) names names (λ name k first. ap (λ (o : Option ℕ). if_alone (not (is_some o))) first) in
     sym (signs is_alone (matches_of names names)) ∙ ap (λ (z : List ℕ). length z) m
 
 count_none : (report : List ℕ) (n : ℕ) → n ≡ 0 → lone_count_line report n ≡ []
@@ -150,7 +150,7 @@ states_none : (changes : List ℕ) (same : ℕ) (gone added : List ℕ) → chan
 unfolding states_section
 states_none changes same gone added d e f =
     let t : (is_none changes && (is_none gone && is_none added)) ≡ true =
-        ap (λ (z : List ℕ). is_none z && (is_none gone && is_none added)) d ∙ ap (λ (z : List ℕ). is_none z && is_none added) e ∙ ap is_none f in
+    ap (λ (z : List ℕ). is_none z && (is_none gone && is_none added)) d ∙ ap (λ (z : List ℕ). is_none z && is_none added) e ∙ ap is_none f in
     if_true (is_none changes && (is_none gone && is_none added)) [] _ t
 
 nodes : (xs : List NodePart) → nodes_diff xs xs ≡ []

@@ -37,7 +37,7 @@ unfoldable pub ticks_table : List HartPart → List HartPart → List ℕ → Li
 ticks_table olds news rows =
     if (all_ticks olds == all_ticks news) && is_none rows then []
     else columns_heading (codes "ticks") ++ numbers_row (all_ticks olds) (all_ticks news) (codes "all harts")
-        ++ (if are_several olds news then rows else [])
+    ++ (if are_several olds news then rows else [])
 
 -- they ended in the same way
 abbrev pub has_same_end : HartPart → HartPart → Bool
@@ -82,4 +82,4 @@ unfoldable pub output_diff : List ℕ → List ℕ → List ℕ
 output_diff old new =
     if bytes_eq old new then []
     else codes "output: " ++ bytes_text (length old) ++ codes " -> " ++ bytes_text (length new) ++ codes ", different behind "
-        ++ bytes_text (same_bytes old new) ++ codes "\n"
+    ++ bytes_text (same_bytes old new) ++ codes "\n"
