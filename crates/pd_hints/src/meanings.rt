@@ -157,7 +157,7 @@ const LOGS: [Meaning; 5] = [
     },
 ];
 
-const TOPICS: [Topic; 11] = [
+const TOPICS: [Topic; 12] = [
     Topic {
         begins: "usage",
         meanings: &[Meaning {

@@ -1,5 +1,5 @@
 -- A row of the table, and its text.
-use Rattle.std.specs.Prelude.{ℕ, Option, Some, None, List, [], ◌∷◌, ◌++◌, codes, flat_map}
+use Rattle.std.specs.Prelude.{ℕ, Option, Some, None, List, [], ◌∷◌, codes, flat_map}
 use Rattle.std.specs.Fmt.{decimal, signed_decimal}
 use Rattle.std.specs.Int.{cast_signed, w64}
 use Rattle.csv.specs.Writing.{default_writer, row_text}
@@ -24,21 +24,8 @@ pub record Cells : Type 0 where
 
 abbrev pub blank : Cells
 blank = record {
-  kind = [];
-  number = [];
-  name = [];
-  focus = [];
-  units = [];
-  phase = [];
-  parent = [];
-  state = [];
-  samples = [];
-  from = [];
-  to = [];
-  value = [];
-  ticks = [];
-  pc = [];
-  text = [];
+  kind = []; number = []; name = []; focus = []; units = []; phase = []; parent = []; state = []; samples = []; from = []; to = []; value = [];
+  ticks = []; pc = []; text = []
 }
 
 -- the cells in the order of the columns

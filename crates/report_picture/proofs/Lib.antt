@@ -2,3 +2,4 @@ pub mod Ends
 pub mod Safe
 pub mod StepHeights
 pub mod Balance
+pub mod Joins

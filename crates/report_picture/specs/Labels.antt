@@ -26,11 +26,16 @@ histogram_name s = s.metric ++ codes " in " ++ s.units ++ codes ", " ++ short_fo
 unfoldable pub steps_of : ShownPart → Histogram
 steps_of s = hist_of 512 (take most_bins s.bins)
 
--- the sum, the greatest bin, how many bins there are, and how many of them a step joins
+-- the sum of values, and the greatest
+unfoldable pub value_sums : List ℕ → List ℕ
+value_sums values = codes "sum " ++ signed_number (sum_of values) ++ codes ", greatest bin " ++ signed_number (greatest values)
+
+-- how many bins there are, and how many of them a step joins
+unfoldable pub bin_counts : ℕ → ℕ → List ℕ
+bin_counts width count = codes ", bins " ++ decimal count ++ codes ", bins in a step " ++ decimal width
+
 unfoldable pub histogram_sums : ℕ → ShownPart → List ℕ
-histogram_sums width s =
-    codes "sum " ++ signed_number (sum_of (bin_values s.bins)) ++ codes ", greatest bin " ++ signed_number (greatest (bin_values s.bins))
-    ++ codes ", bins " ++ decimal (length s.bins) ++ codes ", bins in a step " ++ decimal width
+histogram_sums width s = value_sums (bin_values s.bins) ++ bin_counts width (length s.bins)
 
 -- ---- nodes
 

@@ -1,6 +1,7 @@
 -- The time lines of all histograms, one row for each, over one axis.
 use Rattle.std.specs.Prelude.{ℕ, ◌+◌, ◌-◌, ◌*◌, ◌/◌, ◌==◌, if◌then◌else◌, List, [], ◌∷◌, ◌++◌, codes, flat_map, length}
 use Rattle.std.specs.Fmt.{decimal}
+use Rattle.fold_hist.specs.Bins.{Histogram}
 use Rattle.fold_hist.specs.declared.bin.Bin.{Bin}
 use Rattle.report.specs.declared.parts.ShownPart.{ShownPart}
 use Rattle.report_view.specs.Bars.{bin_values, positive}
@@ -31,11 +32,14 @@ steps last bins = flat_map (step last (positive (greatest (bin_values bins)))) b
 -- ---- rows
 
 -- its sums, and its step line in tenths of a pixel
-unfoldable pub line_of_steps : ℕ → ShownPart → List ℕ
-line_of_steps last s =
-    codes "<text y=\"28\" fill=\"#555\">" ++ histogram_sums (steps_of s).width s
-    ++ codes "</text>\n<path transform=\"translate(0 34) scale(.1)\" fill=\"#2563a8\" d=\"" ++ steps last (steps_of s).bins
+unfoldable pub hist_line : ℕ → ShownPart → Histogram → List ℕ
+hist_line last s hist =
+    codes "<text y=\"28\" fill=\"#555\">" ++ histogram_sums hist.width s
+    ++ codes "</text>\n<path transform=\"translate(0 34) scale(.1)\" fill=\"#2563a8\" d=\"" ++ steps last hist.bins
     ++ codes "\"/>\n<path d=\"M0 74.5H940\" stroke=\"#888\"/>\n"
+
+unfoldable pub line_of_steps : ℕ → ShownPart → List ℕ
+line_of_steps last s = hist_line last s (steps_of s)
 
 unfoldable pub line_or_none : ℕ → ShownPart → List ℕ
 line_or_none last s =
@@ -55,11 +59,15 @@ time_lines_from last n (s ∷ ss) = time_line last n s ++ time_lines_from last (
 abbrev pub time_lines_height : List ShownPart → ℕ
 time_lines_height shown = length shown * 84 + 40
 
--- the axis and all rows, or nothing where there are none
+-- the axis up to an end, and all rows
+unfoldable pub lines_to : ℕ → List ShownPart → List ℕ
+lines_to last shown =
+    codes "<text x=\"20\" y=\"14\" fill=\"#555\">time in ticks</text>\n" ++ marks (time_lines_height shown) last
+    ++ time_lines_from last 0 shown
+
+-- up to the end of all, or nothing where there are none
 unfoldable pub some_time_lines : List ShownPart → List ℕ
-some_time_lines shown =
-    codes "<text x=\"20\" y=\"14\" fill=\"#555\">time in ticks</text>\n" ++ marks (time_lines_height shown) (end_of_shown shown)
-    ++ time_lines_from (end_of_shown shown) 0 shown
+some_time_lines shown = lines_to (end_of_shown shown) shown
 
 unfoldable pub time_lines : List ShownPart → List ℕ
 time_lines shown = if length shown == 0 then [] else some_time_lines shown

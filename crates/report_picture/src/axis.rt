@@ -207,12 +207,7 @@ fn add_marks_at(
 ///
 /// `NoMemory` where memory runs out.
 #[tactic(auto, unfolding(crate::specs::Axis::marks))]
-pub fn add_marks(
-    alloc: Global,
-    out: &mut Vec<u8>,
-    height: u128,
-    end: u64,
-) -> Result<(), NoMemory>
+pub fn add_marks(alloc: Global, out: &mut Vec<u8>, height: u128, end: u64) -> Result<(), NoMemory>
     ensures { OnOk result (out.new.items ≡ out.old.items ++ marks height end) }
 {
     let counts = [0, 1, 2, 3, 4, 5, 6, 7, 8, 9, 10];

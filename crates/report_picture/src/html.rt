@@ -4,15 +4,15 @@ ghost use Rattle.std.specs.Prelude.{◌≡◌, ◌++◌, ◌-◌, [], flat_map, 
 ghost use Rattle.std.specs.Option.{option_map, option_map_or};
 ghost use Rattle.report_picture.specs.Html.{closing, end_cells, ends, hart_cells, hart_table, hart_table_rows, html_line, node_lines, node_text, opening, page, page_head, page_meta, page_start, page_style, phase_heading, report_html, search_of, search_part, some_lines_part, time_lines_part};
 
-use crate::escapes::{add_escaped, add_pair};
-use crate::labels::{add_node_window, add_number, node_name};
+use crate::escapes::add_escaped;
+use crate::labels::{add_node_window, add_number};
+use crate::nodes::{add_name, add_share, add_title};
 use crate::svg::{add_svg_head, nodes_of};
 use crate::time_lines::{add_time_lines, time_lines_height};
 use crate::tree_line::TreeLine;
 use crate::tree_lines::{node_at, tree_lines};
 use pn_types::NoMemory;
 use report::{HartPart, NodePart, ReportParts, SearchPart, ShownPart};
-use report_view::percent;
 use std::alloc::Global;
 
 /// Adds the cells of how and where a hart ended.
@@ -57,7 +57,9 @@ fn add_harts(alloc: Global, out: &mut Vec<u8>, parts: &[HartPart]) -> Result<(),
 fn add_hart_table(alloc: Global, out: &mut Vec<u8>, parts: &[HartPart]) -> Result<(), NoMemory>
     ensures { OnOk result (out.new.items ≡ out.old.items ++ hart_table parts.now) }
 {
-    out.extend_from_slice(b"<h2>Harts</h2>\n<table>\n<tr><th>hart</th><th>ticks</th><th>end</th><th>at</th></tr>\n")?;
+    out.extend_from_slice(
+        b"<h2>Harts</h2>\n<table>\n<tr><th>hart</th><th>ticks</th><th>end</th><th>at</th></tr>\n",
+    )?;
     add_harts(alloc, out, parts)?;
     out.extend_from_slice(b"</table>\n")
 }
@@ -72,14 +74,12 @@ fn add_node_text(
 ) -> Result<(), NoMemory>
     ensures { OnOk result (out.new.items ≡ out.old.items ++ node_text depth part.now) }
 {
-    let name = node_name(alloc, depth, part)?;
-    let share = percent(alloc, part.node.value, part.node.ticks)?;
     out.extend_from_slice(b"<span title=\"")?;
-    add_pair(out, part.hypothesis.bytes(), part.focus.bytes())?;
+    add_title(out, part)?;
     out.extend_from_slice(b"\">")?;
-    out.extend_from_slice(&share)?;
+    add_share(alloc, out, part)?;
     out.extend_from_slice(b" ")?;
-    add_escaped(out, &name)?;
+    add_name(alloc, out, depth, part)?;
     add_node_window(alloc, out, part)?;
     out.extend_from_slice(b"</span>")
 }
@@ -259,8 +259,12 @@ fn add_lines_part(alloc: Global, out: &mut Vec<u8>, parts: &[ShownPart]) -> Resu
 fn add_page_meta(out: &mut Vec<u8>) -> Result<(), NoMemory>
     ensures { OnOk result (out.new.items ≡ out.old.items ++ page_meta) }
 {
-    out.extend_from_slice(b"<!DOCTYPE html>\n<html lang=\"en\">\n<head>\n<meta charset=\"utf-8\">\n")?;
-    out.extend_from_slice(b"<meta name=\"viewport\" content=\"width=device-width, initial-scale=1\">\n<title>Report of a run</title>\n")
+    out.extend_from_slice(
+        b"<!DOCTYPE html>\n<html lang=\"en\">\n<head>\n<meta charset=\"utf-8\">\n",
+    )?;
+    out.extend_from_slice(
+        b"<meta name=\"viewport\" content=\"width=device-width, initial-scale=1\">\n<title>Report of a run</title>\n",
+    )
 }
 
 /// Adds how a page looks.
@@ -268,8 +272,12 @@ fn add_page_meta(out: &mut Vec<u8>) -> Result<(), NoMemory>
 fn add_page_style(out: &mut Vec<u8>) -> Result<(), NoMemory>
     ensures { OnOk result (out.new.items ≡ out.old.items ++ page_style) }
 {
-    out.extend_from_slice(b"<style>\nbody{max-width:1100px;margin:0 auto;padding:0 1em;font:14px/1.5 monospace;color:#222;background:#fff}\n")?;
-    out.extend_from_slice(b"h3{margin:1em 0 0}\np{margin:0 0 0 2em}\ndetails{margin-left:1em}\np,summary{overflow-wrap:anywhere}\n")
+    out.extend_from_slice(
+        b"<style>\nbody{max-width:1100px;margin:0 auto;padding:0 1em;font:14px/1.5 monospace;color:#222;background:#fff}\n",
+    )?;
+    out.extend_from_slice(
+        b"h3{margin:1em 0 0}\np{margin:0 0 0 2em}\ndetails{margin-left:1em}\np,summary{overflow-wrap:anywhere}\n",
+    )
 }
 
 /// Adds how its tables and pictures look, and its heading.
@@ -277,8 +285,12 @@ fn add_page_style(out: &mut Vec<u8>) -> Result<(), NoMemory>
 fn add_page_start(out: &mut Vec<u8>) -> Result<(), NoMemory>
     ensures { OnOk result (out.new.items ≡ out.old.items ++ page_start) }
 {
-    out.extend_from_slice(b"table{border-collapse:collapse;max-width:100%}\nth,td{padding:0 1em 0 0;text-align:left}\n")?;
-    out.extend_from_slice(b"div{max-width:100%;overflow-x:auto}\nsvg{display:block;width:100%;min-width:800px}\n</style>\n</head>\n<body>\n<h1>Report of a run</h1>\n")
+    out.extend_from_slice(
+        b"table{border-collapse:collapse;max-width:100%}\nth,td{padding:0 1em 0 0;text-align:left}\n",
+    )?;
+    out.extend_from_slice(
+        b"div{max-width:100%;overflow-x:auto}\nsvg{display:block;width:100%;min-width:800px}\n</style>\n</head>\n<body>\n<h1>Report of a run</h1>\n",
+    )
 }
 
 /// Adds what a page begins with.

@@ -3,7 +3,7 @@
 ghost use Rattle.std.specs.Prelude.{◌≡◌, ◌++◌, ◌≤◌, ◌^◌, IfOk, OnOk, length, take};
 ghost use Rattle.std.specs.Fmt.{decimal};
 ghost use Rattle.fold_hist.specs.Bins.{hist_of};
-ghost use Rattle.report_picture.specs.Labels.{hart_name, histogram_name, histogram_sums, node_name, node_window, steps_of};
+ghost use Rattle.report_picture.specs.Labels.{bin_counts, hart_name, histogram_name, histogram_sums, node_name, node_window, steps_of, value_sums};
 
 use fold_hist::{Bin, Hist};
 use pn_types::NoMemory;
@@ -99,6 +99,26 @@ pub fn steps_of(alloc: Global, part: &ShownPart) -> Result<Hist, NoMemory>
     joined(alloc, first_bins(part.bins.as_slice(), 4_294_967_296))
 }
 
+/// Adds the sum of values, and the greatest.
+#[tactic(auto, unfolding(crate::specs::Labels::value_sums))]
+fn add_value_sums(alloc: Global, out: &mut Vec<u8>, values: &[u64]) -> Result<(), NoMemory>
+    ensures { OnOk result (out.new.items ≡ out.old.items ++ value_sums values.now) }
+{
+    out.extend_from_slice(b"sum ")?;
+    add_signed(alloc, out, sum_of(values))?;
+    out.extend_from_slice(b", greatest bin ")?;
+    add_signed(alloc, out, greatest(values))
+}
+
+/// Adds how many bins there are, and how many of them a step of this width joins.
+#[tactic(auto, unfolding(crate::specs::Labels::bin_counts))]
+fn add_bin_counts(alloc: Global, out: &mut Vec<u8>, count: u128, width: u64) -> Result<(), NoMemory>
+    ensures { OnOk result (out.new.items ≡ out.old.items ++ bin_counts width count) }
+{
+    add_number(alloc, out, b", bins ", count)?;
+    add_number(alloc, out, b", bins in a step ", width as u128)
+}
+
 /// Adds the sum of a histogram's bins, the greatest, how many there are, and how many of them a step of this width joins.
 ///
 /// # Errors
@@ -114,12 +134,9 @@ pub fn add_histogram_sums(
     ensures { OnOk result (out.new.items ≡ out.old.items ++ histogram_sums width part.now) }
 {
     let values = bin_values(alloc, part.bins.as_slice())?;
-    out.extend_from_slice(b"sum ")?;
-    add_signed(alloc, out, sum_of(&values))?;
-    out.extend_from_slice(b", greatest bin ")?;
-    add_signed(alloc, out, greatest(&values))?;
-    add_number(alloc, out, b", bins ", values.len() as u128)?;
-    add_number(alloc, out, b", bins in a step ", width as u128)
+    add_value_sums(alloc, out, &values)?;
+    let count = part.bins.as_slice().len() as u128;
+    add_bin_counts(alloc, out, count, width)
 }
 
 /// Returns the hypothesis of a node, at a root, and its focus.

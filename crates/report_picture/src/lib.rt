@@ -6,6 +6,7 @@ mod escapes;
 mod html;
 mod labels;
 mod laws;
+mod nodes;
 mod svg;
 mod time_lines;
 mod tree_line;

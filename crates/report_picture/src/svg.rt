@@ -2,17 +2,16 @@
 
 ghost use Rattle.std.specs.Prelude.{◌≡◌, ◌++◌, ◌+◌, [], map, IfOk, OnOk};
 ghost use Rattle.std.specs.Option.{option_map, option_map_or};
-ghost use Rattle.report_picture.specs.Svg.{hart_line, hart_lines, harts_height, moved_down, node_row, nodes_of, phase_row, picture, report_svg, search_of, search_rows, svg_head, tree_row, tree_rows};
+ghost use Rattle.report_picture.specs.Svg.{hart_line, hart_lines, harts_height, moved_down, node_row, nodes_of, phase_row, picture, report_svg, search_head, search_of, search_rows, svg_head, tree_row, tree_rows};
 ghost use Rattle.report_picture.specs.TimeLines.{time_lines};
 
-use crate::escapes::{add_clipped, add_pair};
-use crate::labels::{add_hart_name, add_node_window, add_number, node_name};
+use crate::labels::{add_hart_name, add_node_window, add_number};
+use crate::nodes::{add_clipped_name, add_phase_name, add_share, add_title};
 use crate::time_lines::{add_time_lines, time_lines_height};
 use crate::tree_line::TreeLine;
 use crate::tree_lines::{node_at, tree_lines};
 use pn_types::NoMemory;
 use report::{HartPart, NodePart, ReportParts, SearchPart, ShownPart};
-use report_view::percent;
 use std::alloc::Global;
 
 /// Adds what a picture of some height begins with.
@@ -25,7 +24,8 @@ pub fn add_svg_head(alloc: Global, out: &mut Vec<u8>, height: u128) -> Result<()
     ensures { OnOk result (out.new.items ≡ out.old.items ++ svg_head height) }
 {
     let view = b"<svg xmlns=\"http://www.w3.org/2000/svg\" viewBox=\"0 0 1000 ";
-    let font = b"\" font-family=\"monospace\" font-size=\"12\" fill=\"#222\">\n<title>Report of a run</title>\n<rect width=\"1000\" height=\"";
+    let font =
+        b"\" font-family=\"monospace\" font-size=\"12\" fill=\"#222\">\n<title>Report of a run</title>\n<rect width=\"1000\" height=\"";
     add_number(alloc, out, view, height)?;
     add_number(alloc, out, font, height)?;
     out.extend_from_slice(b"\" fill=\"#fff\"/>\n")
@@ -76,7 +76,7 @@ fn add_phase(
 {
     add_number(alloc, out, b"<text x=\"20\" y=\"", place as u128 * 18 + 40)?;
     out.extend_from_slice(b"\" font-weight=\"bold\">phase ")?;
-    add_clipped(alloc, out, part.phase.bytes())?;
+    add_phase_name(alloc, out, part)?;
     out.extend_from_slice(b"</text>\n")
 }
 
@@ -91,16 +91,19 @@ fn add_node(
 ) -> Result<(), NoMemory>
     ensures { OnOk result (out.new.items ≡ out.old.items ++ node_row place depth part.now) }
 {
-    let name = node_name(alloc, depth, part)?;
-    let share = percent(alloc, part.node.value, part.node.ticks)?;
-    add_number(alloc, out, b"<g transform=\"translate(20 ", place as u128 * 18 + 40)?;
+    add_number(
+        alloc,
+        out,
+        b"<g transform=\"translate(20 ",
+        place as u128 * 18 + 40,
+    )?;
     out.extend_from_slice(b")\"><title>")?;
-    add_pair(out, part.hypothesis.bytes(), part.focus.bytes())?;
+    add_title(out, part)?;
     out.extend_from_slice(b"</title>\n<text x=\"50\" text-anchor=\"end\">")?;
-    out.extend_from_slice(&share)?;
+    add_share(alloc, out, part)?;
     add_number(alloc, out, b"</text>\n<text x=\"", depth as u128 * 12 + 62)?;
     out.extend_from_slice(b"\">")?;
-    add_clipped(alloc, out, &name)?;
+    add_clipped_name(alloc, out, depth, part)?;
     add_node_window(alloc, out, part)?;
     out.extend_from_slice(b"</text></g>\n")
 }
@@ -171,6 +174,16 @@ fn add_lines(
     Ok(())
 }
 
+/// Adds how many nodes a search has.
+#[tactic(auto, unfolding(crate::specs::Svg::search_head))]
+fn add_search_head(alloc: Global, out: &mut Vec<u8>, count: u128) -> Result<(), NoMemory>
+    ensures { OnOk result (out.new.items ≡ out.old.items ++ search_head count) }
+{
+    let label = b"<text x=\"20\" y=\"18\" fill=\"#555\">what was true, of ";
+    add_number(alloc, out, label, count)?;
+    out.extend_from_slice(b" nodes of the search</text>\n")
+}
+
 /// Adds what was true in a search.
 #[tactic(auto, unfolding(crate::specs::Svg::search_rows))]
 fn add_search(
@@ -181,9 +194,7 @@ fn add_search(
 ) -> Result<(), NoMemory>
     ensures { OnOk result (out.new.items ≡ out.old.items ++ search_rows parts.now lines.now) }
 {
-    out.extend_from_slice(b"<text x=\"20\" y=\"18\" fill=\"#555\">what was true, of ")?;
-    add_number(alloc, out, b"", parts.len() as u128)?;
-    out.extend_from_slice(b" nodes of the search</text>\n")?;
+    add_search_head(alloc, out, parts.len() as u128)?;
     add_lines(alloc, out, parts, lines)
 }
 

@@ -69,11 +69,7 @@ fn add_phase(lines: &mut Vec<TreeLine>, begins: bool, number: usize) -> Result<(
 }
 
 /// Returns the lines of some rows.
-fn lines_of(
-    alloc: Global,
-    parts: &[NodePart],
-    rows: &[TreeRow],
-) -> Result<Vec<TreeLine>, NoMemory>
+fn lines_of(alloc: Global, parts: &[NodePart], rows: &[TreeRow]) -> Result<Vec<TreeLine>, NoMemory>
     ensures { IfOk result (λ lines. lines.items ≡ lines_from parts.now None rows.now) }
 {
     let mut lines = Vec::new(alloc);
@@ -81,7 +77,11 @@ fn lines_of(
     for (place, row) in rows.iter().enumerate() {
         let part = node_at(parts, row.number);
         let next = first_depth(rows, place + 1);
-        add_phase(&mut lines, begins_phase(before, row.depth, part), row.number)?;
+        add_phase(
+            &mut lines,
+            begins_phase(before, row.depth, part),
+            row.number,
+        )?;
         lines.push(TreeLine::Node(row.number, row.depth, next))?;
         before = phase_with(before, row.depth, part);
     }
