@@ -24,8 +24,21 @@ pub record Cells : Type 0 where
 
 abbrev pub blank : Cells
 blank = record {
-  kind = []; number = []; name = []; focus = []; units = []; phase = []; parent = []; state = []; samples = []; from = []; to = []; value = [];
-  ticks = []; pc = []; text = []
+  kind = [];
+  number = [];
+  name = [];
+  focus = [];
+  units = [];
+  phase = [];
+  parent = [];
+  state = [];
+  samples = [];
+  from = [];
+  to = [];
+  value = [];
+  ticks = [];
+  pc = [];
+  text = [];
 }
 
 -- the cells in the order of the columns

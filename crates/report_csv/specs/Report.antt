@@ -26,8 +26,12 @@ samples_row samples = record blank { kind = codes "samples"; samples = decimal s
 
 abbrev pub hart_row : ℕ → HartPart → Cells
 hart_row n hart = record blank {
-  kind = codes "hart"; number = decimal n; state = stop_text hart.stop; value = optional (stop_code hart.stop); ticks = decimal hart.ticks;
-  pc = decimal hart.pc
+  kind = codes "hart";
+  number = decimal n;
+  state = stop_text hart.stop;
+  value = optional (stop_code hart.stop);
+  ticks = decimal hart.ticks;
+  pc = decimal hart.pc;
 }
 
 -- the harts that are numbered from n on
@@ -46,8 +50,13 @@ run_rows skipped parts =
 
 abbrev pub refused_row : ℕ → RefusedPart → Cells
 refused_row n wish = record blank {
-  kind = codes "refused"; number = decimal n; name = wish.metric; focus = wish.focus;
-  state = (if wish.show then codes "show" else codes "drop"); from = decimal wish.at; text = cause_text wish.cause
+  kind = codes "refused";
+  number = decimal n;
+  name = wish.metric;
+  focus = wish.focus;
+  state = (if wish.show then codes "show" else codes "drop");
+  from = decimal wish.at;
+  text = cause_text wish.cause;
 }
 
 abbrev pub refused_rows : ℕ → List RefusedPart → List (List (List ℕ))
@@ -56,14 +65,24 @@ refused_rows n (wish ∷ wishes) = row (refused_row n wish) ∷ refused_rows (n 
 
 abbrev pub shown_row : ℕ → ShownPart → Cells
 shown_row n shown = record blank {
-  kind = codes "shown"; number = decimal n; name = shown.metric; focus = shown.focus; units = shown.units; samples = decimal shown.width;
-  from = optional shown.from
+  kind = codes "shown";
+  number = decimal n;
+  name = shown.metric;
+  focus = shown.focus;
+  units = shown.units;
+  samples = decimal shown.width;
+  from = optional shown.from;
 }
 
 -- bin number n of a histogram
 abbrev pub bin_row : ℕ → ℕ → Bin → Cells
 bin_row histogram n bin = record blank {
-  kind = codes "bin"; number = decimal n; parent = decimal histogram; from = decimal bin.from; to = decimal bin.to; value = signed bin.sum
+  kind = codes "bin";
+  number = decimal n;
+  parent = decimal histogram;
+  from = decimal bin.from;
+  to = decimal bin.to;
+  value = signed bin.sum;
 }
 
 abbrev pub bin_rows : ℕ → ℕ → List Bin → List (List (List ℕ))
@@ -86,14 +105,19 @@ optional_cause (Some cause) = cause_text cause
 
 abbrev pub node_row : ℕ → NodePart → Cells
 node_row n part = record blank {
-  kind = codes "node"; number = decimal n; name = part.hypothesis; focus = part.focus; phase = part.phase;
-  parent = optional part.node.parent; state = state_word part.node.state;
+  kind = codes "node";
+  number = decimal n;
+  name = part.hypothesis;
+  focus = part.focus;
+  phase = part.phase;
+  parent = optional part.node.parent;
+  state = state_word part.node.state;
   samples = optional (seen_by part.node.state part.node.seen);
   from = optional (of_verdict part.node.state part.node.from);
   to = optional (of_verdict part.node.state part.node.to);
   value = optional (of_verdict part.node.state part.node.value);
   ticks = optional (of_verdict part.node.state part.node.ticks);
-  text = optional_cause (bar_cause part.node.state)
+  text = optional_cause (bar_cause part.node.state);
 }
 
 abbrev pub node_rows : ℕ → List NodePart → List (List (List ℕ))

@@ -1,7 +1,6 @@
 -- A writer of csv over a vector, and the cells that it is given.
 use Rattle.std.specs.Prelude.{◌≡◌, ℕ, Option, Some, None, List, [], ◌∷◌, ◌++◌, Vec, false}
 use Rattle.std.specs.declared.alloc.Global.{Global}
-
 use Rattle.csv.specs.Writing.{default_writer, fields_written, has_written, writer_pending, writer_setup, writer_under}
 use Rattle.report_csv.specs.declared.cells.Cells.{Cells}
 use Rattle.csv.specs.declared.writer.Writer.{Writer}

@@ -95,11 +95,7 @@ fn add_hart(
 }
 
 /// Adds the harts, by number.
-fn add_harts(
-    alloc: Global,
-    out: &mut Writer<Vec<u8>>,
-    parts: &[HartPart],
-) -> Result<(), NoMemory>
+fn add_harts(alloc: Global, out: &mut Writer<Vec<u8>>, parts: &[HartPart]) -> Result<(), NoMemory>
     requires { IsBetween out.old }
     ensures between { OnOk result (IsBetween out.new) }
     ensures text { OnOk result (written out.new ≡ written out.old ++ lines (hart_rows 0 parts.now)) }
@@ -111,11 +107,7 @@ fn add_harts(
 }
 
 /// Adds what the program wrote.
-fn add_output(
-    alloc: Global,
-    out: &mut Writer<Vec<u8>>,
-    output: &[u8],
-) -> Result<(), NoMemory>
+fn add_output(alloc: Global, out: &mut Writer<Vec<u8>>, output: &[u8]) -> Result<(), NoMemory>
     requires { IsBetween out.old }
     ensures between { OnOk result (IsBetween out.new) }
     ensures text { OnOk result (written out.new ≡ written out.old ++ line (row (output_row output.now))) }

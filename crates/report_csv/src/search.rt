@@ -22,11 +22,7 @@ fn full_word(full: bool) -> &'static [u8]
 }
 
 /// Adds the search.
-fn add_head(
-    alloc: Global,
-    out: &mut Writer<Vec<u8>>,
-    part: &SearchPart,
-) -> Result<(), NoMemory>
+fn add_head(alloc: Global, out: &mut Writer<Vec<u8>>, part: &SearchPart) -> Result<(), NoMemory>
     requires { IsBetween out.old }
     ensures between { OnOk result (IsBetween out.new) }
     ensures text { OnOk result (written out.new ≡ written out.old ++ line (row (search_row part.now))) }
@@ -108,11 +104,7 @@ fn add_node(
 }
 
 /// Adds the nodes, by number.
-fn add_nodes(
-    alloc: Global,
-    out: &mut Writer<Vec<u8>>,
-    parts: &[NodePart],
-) -> Result<(), NoMemory>
+fn add_nodes(alloc: Global, out: &mut Writer<Vec<u8>>, parts: &[NodePart]) -> Result<(), NoMemory>
     requires { IsBetween out.old }
     ensures between { OnOk result (IsBetween out.new) }
     ensures text { OnOk result (written out.new ≡ written out.old ++ lines (node_rows 0 parts.now)) }

@@ -11,6 +11,8 @@ loop-number-preserved c =
     let added = c.in_ok-add_hart.ensures in
     let parts = c.args.parts.now in
     let n = c.loop-number.number in
-    let none : HartPart = record { ticks = 0; stop = Exit 0; pc = 0 } in
-    (added.between, next_part parts n (get_or parts n none) none (omega arith) refl
-    hart_rows (λ n part. line (row (hart_row n part))) (λ n part parts. refl) _ _ _ added.text c.loop-number.invariant.1)
+    let none : HartPart = record { ticks = 0; stop = Exit 0; pc = 0 } in (
+      added.between,
+      next_part parts n (get_or parts n none) none (omega arith) refl
+          hart_rows (λ n part. line (row (hart_row n part))) (λ n part parts. refl) _ _ _ added.text c.loop-number.invariant.1,
+    )

@@ -11,6 +11,8 @@ loop-number-preserved c =
     let histogram = c.args.histogram in
     let bins = c.args.bins.now in
     let n = c.loop-number.number in
-    let none : Bin = record { from = 0; to = 0; sum = 0 } in
-    (added.between, next_part bins n (get_or bins n none) none (omega arith) refl
-    (bin_rows histogram) (λ n bin. line (row (bin_row histogram n bin))) (λ n bin bins. refl) _ _ _ added.text c.loop-number.invariant.1)
+    let none : Bin = record { from = 0; to = 0; sum = 0 } in (
+      added.between,
+      next_part bins n (get_or bins n none) none (omega arith) refl
+          (bin_rows histogram) (λ n bin. line (row (bin_row histogram n bin))) (λ n bin bins. refl) _ _ _ added.text c.loop-number.invariant.1,
+    )

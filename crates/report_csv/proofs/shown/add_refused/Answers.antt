@@ -5,6 +5,15 @@ use Rattle.report_csv.proofs.shown.add_refused.Goals as goal
 pub returns-clause-text : goal.returns-clause-text
 returns-clause-text c =
     IfOk-equal _ _ _ _ c.add_row.ensures.text
-    (rw (c.in_ok-number.ensures, c.in_ok-text.ensures, c.in_ok-text-2.ensures, c.in_ok-text-3.ensures, c.in_ok-number-2.ensures,
-    c.in_ok-cause.ensures, c.bytes.ensures, c.bytes-2.ensures, c.wish.ensures)
+    (rw (
+      c.in_ok-number.ensures,
+      c.in_ok-text.ensures,
+      c.in_ok-text-2.ensures,
+      c.in_ok-text-3.ensures,
+      c.in_ok-number-2.ensures,
+      c.in_ok-cause.ensures,
+      c.bytes.ensures,
+      c.bytes-2.ensures,
+      c.wish.ensures,
+    )
     refl)
