@@ -1,5 +1,5 @@
 -- As many nodes are ended as begun.
-use Rattle.std.proofs.Common.{◌≡◌, ◌+◌, ◌-◌, ◌≤◌, ◌<◌, ℕ, zero, suc, Bool, true, false, List, [], ◌∷◌, ◌++◌, refl, ap, sym, ◌∙◌, zero-add, arith}
+use Rattle.std.proofs.Common.{◌≡◌, ◌+◌, ◌-◌, ◌≤◌, ◌<◌, ℕ, suc, Bool, true, false, List, [], ◌∷◌, ◌++◌, refl, ap, sym, ◌∙◌, zero-add, arith}
 use Rattle.std.specs.Prelude.{if◌then◌else◌, nat_lt, slice_get, sum_by, Option, Some, None}
 use Rattle.std.proofs.lemmas.Bool.Decides.{nat_tests}
 use Rattle.std.proofs.lemmas.List.Sums.{sum_by-cons}
@@ -10,7 +10,7 @@ use Rattle.report_view.specs.Trees.{truth_tree}
 use Rattle.report_view.specs.declared.tree_row.TreeRow.{TreeRow}
 use Rattle.report_view.proofs.Parents.{parents_above}
 use Rattle.report_picture.specs.Laws.{DetailsBalance, begun, ended}
-use Rattle.report_picture.specs.TreeLines.{begins_phase, first_depth, lines_from, tree_lines}
+use Rattle.report_picture.specs.TreeLines.{begins_phase, first_depth, lines_from}
 use Rattle.report_picture.specs.declared.tree_line.TreeLine.{TreeLine}
 use Rattle.report_picture.specs.declared.tree_line.TreeLine.TheVariants.{Phase, Node}
 

@@ -1,5 +1,5 @@
 -- Escaped texts.
-use Rattle.std.proofs.Common.{◌≡◌, ℕ, Bool, true, false, List, [], ◌∷◌, ◌++◌, refl, ap, sym, ◌∙◌}
+use Rattle.std.proofs.Common.{◌≡◌, ℕ, Bool, true, false, List, [], ◌∷◌, ◌++◌, refl}
 use Rattle.std.specs.Prelude.{◌==◌, ◌&&◌, ◌||◌, nat_le, if◌then◌else◌, codes, flat_map}
 use Rattle.report_picture.specs.Escapes.{escaped, escaped_byte, is_allowed}
 use Rattle.report_picture.specs.Laws.{TextsAreEscaped, is_safe}

@@ -1,5 +1,5 @@
 -- What is said of harts, histograms and nodes.
-use Rattle.std.specs.Prelude.{ℕ, List, [], ◌++◌, codes, length, take}
+use Rattle.std.specs.Prelude.{ℕ, List, ◌++◌, codes, length, take}
 use Rattle.std.specs.Fmt.{decimal}
 use Rattle.fold_hist.specs.Bins.{hist_of, Histogram}
 use Rattle.pn_types.specs.Texts.{address, stop_text}
@@ -8,7 +8,7 @@ use Rattle.report.specs.declared.parts.NodePart.{NodePart}
 use Rattle.report.specs.declared.parts.ShownPart.{ShownPart}
 use Rattle.report_view.specs.Bars.{bin_values, most_bins}
 use Rattle.report_view.specs.Foci.{short_focus}
-use Rattle.report_view.specs.Searches.{hypothesis_text, percent}
+use Rattle.report_view.specs.Searches.{hypothesis_text}
 use Rattle.report_view.specs.Signed.{greatest, signed_number, sum_of}
 
 -- how and where a hart ended

@@ -59,11 +59,11 @@ tree_rows parts n [] = []
 tree_rows parts n (line ∷ lines) = tree_row parts n line ++ tree_rows parts (n + 1) lines
 
 -- how many nodes there are
-unfoldable pub search_head : ℕ → List ℕ
-search_head count = codes "<text x=\"20\" y=\"18\" fill=\"#555\">what was true, of " ++ decimal count ++ codes " nodes of the search</text>\n"
+unfoldable pub nodes_heading : ℕ → List ℕ
+nodes_heading count = codes "<text x=\"20\" y=\"18\" fill=\"#555\">what was true, of " ++ decimal count ++ codes " nodes of the search</text>\n"
 
 unfoldable pub search_rows : List NodePart → List TreeLine → List ℕ
-search_rows parts lines = search_head (length parts) ++ tree_rows parts 0 lines
+search_rows parts lines = nodes_heading (length parts) ++ tree_rows parts 0 lines
 
 abbrev pub nodes_of : Option SearchPart → List NodePart
 nodes_of None = []

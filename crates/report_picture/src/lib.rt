@@ -7,6 +7,7 @@ mod html;
 mod labels;
 mod laws;
 mod nodes;
+mod page_head;
 mod svg;
 mod time_lines;
 mod tree_line;

@@ -2,7 +2,7 @@
 
 ghost use Rattle.std.specs.Prelude.{◌≡◌, ◌++◌, ◌+◌, [], map, IfOk, OnOk};
 ghost use Rattle.std.specs.Option.{option_map, option_map_or};
-ghost use Rattle.report_picture.specs.Svg.{hart_line, hart_lines, harts_height, moved_down, node_row, nodes_of, phase_row, picture, report_svg, search_head, search_of, search_rows, svg_head, tree_row, tree_rows};
+ghost use Rattle.report_picture.specs.Svg.{hart_line, hart_lines, harts_height, moved_down, node_row, nodes_of, phase_row, picture, report_svg, nodes_heading, search_of, search_rows, svg_head, tree_row, tree_rows};
 ghost use Rattle.report_picture.specs.TimeLines.{time_lines};
 
 use crate::labels::{add_hart_name, add_node_window, add_number};
@@ -175,9 +175,9 @@ fn add_lines(
 }
 
 /// Adds how many nodes a search has.
-#[tactic(auto, unfolding(crate::specs::Svg::search_head))]
-fn add_search_head(alloc: Global, out: &mut Vec<u8>, count: u128) -> Result<(), NoMemory>
-    ensures { OnOk result (out.new.items ≡ out.old.items ++ search_head count) }
+#[tactic(auto, unfolding(crate::specs::Svg::nodes_heading))]
+fn add_nodes_heading(alloc: Global, out: &mut Vec<u8>, count: u128) -> Result<(), NoMemory>
+    ensures { OnOk result (out.new.items ≡ out.old.items ++ nodes_heading count) }
 {
     let label = b"<text x=\"20\" y=\"18\" fill=\"#555\">what was true, of ";
     add_number(alloc, out, label, count)?;
@@ -194,7 +194,7 @@ fn add_search(
 ) -> Result<(), NoMemory>
     ensures { OnOk result (out.new.items ≡ out.old.items ++ search_rows parts.now lines.now) }
 {
-    add_search_head(alloc, out, parts.len() as u128)?;
+    add_nodes_heading(alloc, out, parts.len() as u128)?;
     add_lines(alloc, out, parts, lines)
 }
 

@@ -1,12 +1,12 @@
 use Rattle.std.proofs.Common.{refl, ◌++◌}
 use Rattle.std.specs.Fmt.{decimal}
 use Rattle.std.specs.Prelude.{codes}
-use Rattle.report_picture.specs.Svg.{search_head}
+use Rattle.report_picture.specs.Svg.{nodes_heading}
 use Rattle.report_picture.proofs.Joins.{join, join_last}
-use Rattle.report_picture.proofs.svg.add_search_head.Goals as goal
+use Rattle.report_picture.proofs.svg.add_nodes_heading.Goals as goal
 
 pub returns : goal.returns
-unfolding search_head
+unfolding nodes_heading
 returns c =
     let o0 = c.args.out.now.items in
     let o1 = c.add_number.new.out.items in

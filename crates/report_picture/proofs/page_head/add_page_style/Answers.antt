@@ -1,8 +1,7 @@
-use Rattle.std.proofs.Common.{◌++◌}
 use Rattle.std.specs.Prelude.{codes}
 use Rattle.report_picture.specs.Html.{page_style}
 use Rattle.report_picture.proofs.Joins.{join_last}
-use Rattle.report_picture.proofs.html.add_page_style.Goals as goal
+use Rattle.report_picture.proofs.page_head.add_page_style.Goals as goal
 
 pub returns : goal.returns
 unfolding page_style
