@@ -206,7 +206,7 @@ const TOPICS: [Topic; 12] = [
         begins: "bad new report at ",
         meanings: &[Meaning {
             has: "",
-            says: "The second file isn't what `run`, `live`, `replay` or `direct` prints, or it was changed.\n",
+            says: "The second file isn't what `run`, `live`, `replay` or `direct` prints, nor a profile where the first is one, or it was changed.\n",
         }],
     },
     Topic {
