@@ -28,8 +28,8 @@ code_once by_module q image focus =
 
 foci_once : (each : Option NodeKind) (q : AskRequest) (image : Image) (t : Resources) (focus : Focus) → IsOne (AreFoci each q image t focus)
 foci_once None q image t focus a b e f = e ∙ sym f
-foci_once (Some Procedure) q image t focus = code_once false q image (canonical t focus)
-foci_once (Some Module) q image t focus = code_once true q image (canonical t focus)
+foci_once (Some Procedure) q image t focus a b e f = code_once false q image (canonical t focus) a b e f
+foci_once (Some Module) q image t focus a b e f = code_once true q image (canonical t focus) a b e f
 foci_once (Some Lock) q image t focus a b e f = e ∙ sym f
 foci_once (Some Hart) q image t focus a b e f = e ∙ sym f
 

@@ -183,7 +183,7 @@ of_report_spared bad spare (Ok report) = tt
 of_report_spared bad spare (Err (report_fault.BadReport place)) = spare place
 
 of_profile_spared : (bad : ℕ → Fault) → ((place : ℕ) → NotFile (bad place)) → (r : Result ReadProfile ReportFault) → Spares (of_profile bad r)
-of_profile_spared bad spare (Ok profile) = tt
+of_profile_spared bad spare (Ok p) = tt
 of_profile_spared bad spare (Err (report_fault.BadReport place)) = spare place
 
 compared_spared : (bad : ℕ → Fault) → ((place : ℕ) → NotFile (bad place)) → (bytes : List ℕ) → Spares (compared_in bad bytes)

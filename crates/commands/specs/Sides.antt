@@ -1,4 +1,4 @@
--- Which of two files is faulty.
+-- For proofs alone: which of two files is faulty.
 use Rattle.std.specs.Prelude.{ℕ}
 use Rattle.refusals.specs.declared.fault.Fault.{Fault}
 use Rattle.refusals.specs.declared.fault.Fault.TheVariants.{BadReport, BadNewReport}

@@ -1,15 +1,17 @@
 //! The command `ask`.
 
 ghost use Rattle.std.specs.Prelude.{◌≡◌, ◌<◌, ◌≤◌, ◌^◌, ◌∷◌, ◌++◌, [], is_some, length, map, Some, IfOk, OnOk};
-ghost use Rattle.std.specs.List.{list_all};
+ghost use Rattle.std.specs.List.{AllByRecursion, list_all};
 ghost use Rattle.code_points.specs.Procedures.{AreModulesGood, AreProcsOf, procedures_of};
 ghost use Rattle.command_words.specs.Asked.{asked_ask};
 ghost use Rattle.command_words.specs.Requests.{HasRanges, IsBlocksInRange, ask};
-ghost use Rattle.commands.specs.Asking.{AreCodeFoci, AreFoci, IsAsk, IsAskAt, IsAskDue, IsAskOf, children_foci, code_foci, executed, executed_in, or_one};
+ghost use Rattle.commands.specs.Asking.{AreCodeFoci, AreFoci, IsAsk, IsAskAt, IsAskDue, IsAskOf, children_foci, code_foci, executed, executed_in, or_one, shipped_metrics};
 ghost use Rattle.commands.specs.AskedChildren.{child_at};
 ghost use Rattle.commands.specs.FileReadings.{reads, Looks};
 ghost use Rattle.commands.specs.Given.{IsUnscratched};
+ghost use Rattle.commands.specs.Inputs.{MeansConf};
 ghost use Rattle.commands.specs.Plans.{metric_named};
+ghost use Rattle.mdl_ast.specs.Small.{HasSmall};
 ghost use Rattle.pn_types.specs.Images.{IsImage};
 ghost use Rattle.profile_text.specs.ProcedureRows.{rows_in};
 ghost use Rattle.profile_text.specs.Totals.{Fits};
@@ -23,7 +25,7 @@ use crate::planning::{metric_number, select};
 use crate::profiling::{profiled, starts};
 use crate::texts::Texts;
 use command_words::{AskRequest, NodeKind, ProfileSource, metric_names};
-use mdl_ast::Metric;
+use mdl_ast::{Conf, Metric};
 use outside::Files;
 use pair_wishes::{AskedInterval, ask_text, module_foci, procedure_foci};
 use pn_types::{Axis, Focus, Image, NoMemory, Proc, Seq, Text};
@@ -250,6 +252,15 @@ fn ask_found(
     ask_at(alloc, request, image, found, &names, &focus)
 }
 
+/// Returns the configuration that has the shipped metrics alone.
+fn shipped_configuration(alloc: Global) -> Result<Conf, Refusal>
+    ensures means { Comes result (MeansConf shipped_metrics) }
+    ensures few { IfOk result (λ conf. length conf.items ≤ 1048576) }
+    ensures small { IfOk result (λ conf. AllByRecursion HasSmall conf.items) }
+{
+    configuration(alloc, SHIPPED_METRICS)
+}
+
 /// Returns what is due for `ask` of an image, under the shipped metrics.
 fn ask_of(alloc: Global, request: &AskRequest<'_>, image: &Image) -> Result<Texts, Refusal>
     requires image { IsImage image.now }
@@ -258,7 +269,7 @@ fn ask_of(alloc: Global, request: &AskRequest<'_>, image: &Image) -> Result<Text
     requires ranges { HasRanges (ask (asked_ask request.now)) }
     ensures { Comes result (IsAskOf (asked_ask request.now) image.now) }
 {
-    let conf = configuration(alloc, SHIPPED_METRICS)?;
+    let conf = shipped_configuration(alloc)?;
     let found = find(alloc, image, request.counted.harts, &conf)?;
     ask_found(alloc, request, image, &found)
 }
