@@ -5,7 +5,7 @@ use Rattle.pd_run.specs.declared.guarding.Kind.{Kind}
 use Rattle.pd_run.specs.declared.guarding.Kind.TheVariants.{Log, Report, View, Difference, Json, Csv, Svg, Html, Configuration, Elf, Callgrind}
 
 -- how files of a kind begin
-abbrev pub beginning_of : Kind → List ℕ
+unfoldable pub beginning_of : Kind → List ℕ
 beginning_of Log = codes "PDYNLOG"
 beginning_of Report = codes "paradyn report "
 beginning_of View = codes "ticks "

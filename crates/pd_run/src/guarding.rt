@@ -35,6 +35,7 @@ pub enum Kind {
 
 impl Kind {
     /// Returns how files of the kind begin.
+    #[tactic(auto, unfolding(crate::specs::Guards::beginning_of))]
     fn beginning(self) -> &'static [u8]
         ensures { result.now ≡ beginning_of self }
     {
