@@ -1,6 +1,6 @@
 //! What must not be written over.
 
-ghost use Rattle.std.specs.Prelude.{◌≡◌, ◌⊎◌, true};
+ghost use Rattle.std.specs.Prelude.{◌≡◌, ◌⊎◌, length, take, true};
 ghost use Rattle.outside.specs.Causes.{Rose};
 ghost use Rattle.pd_run.specs.Guards.{MayGo, beginning_of};
 
@@ -55,14 +55,22 @@ impl Kind {
     }
 }
 
+/// Returns whether bytes begin as files of a kind do.
+fn begins_as(bytes: &[u8], kind: Kind) -> bool
+    ensures { result ≡ true → take (length (beginning_of kind)) bytes.now ≡ beginning_of kind }
+{
+    bytes.starts_with(kind.beginning())
+}
+
 /// Returns whether a file may be written over: it can't be read, as where it isn't there, or is empty, or begins as one of the kind.
+#[tactic(auto, using(crate::proofs::Beginnings::begins_file))]
 pub fn may_write<F: Files>(files: &mut F, name: &str, kind: Kind) -> bool
     ensures { result ≡ true → Rose (F.faults files.old name.now) (F.faults files.new name.now) ⊎ MayGo kind (F.holds files.old name.now) }
 {
     let mut front = [0; 32];
     match files.read_at(name, 0, &mut front) {
         Ok(0) => true,
-        Ok(count) => front[..count].starts_with(kind.beginning()),
+        Ok(count) => begins_as(&front[..count], kind),
         Err(_) => true,
     }
 }
