@@ -31,8 +31,8 @@ def foci(each, tree, focus, rows):
 
 
 def text(w, metrics, foci):
-    """The shipped metrics, and wishes for the first pairs."""
-    pairs = [m + b" " + f for f in foci for m in metrics][:w["instruments"]]
+    """The shipped metrics, and wishes for the first distinct pairs."""
+    pairs = list(dict.fromkeys(m + b" " + f for f in foci for m in metrics))[:w["instruments"]]
     out = SHIPPED + b"".join(b"at %d show %s;\n" % (w["from"], p) for p in pairs)
     if w["until"] is not None:
         out += b"".join(b"at %d drop %s;\n" % (w["until"], p) for p in pairs)

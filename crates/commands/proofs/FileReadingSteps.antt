@@ -20,7 +20,7 @@ use Rattle.commands.specs.Inputs.{IsProgramOfFile, IsConfiguration, AreInputs}
 use Rattle.commands.specs.Logs.{IsLog}
 use Rattle.commands.specs.Runs.{IsPrepared}
 use Rattle.commands.specs.FileReadings.{FileReading, reads, IsContent}
-use Rattle.commands.specs.declared.differing.Compared.{Compared}
+use Rattle.commands.specs.declared.differing.ComparedFile.{ComparedFile}
 use Rattle.commands.specs.declared.inputs.Inputs.{Inputs}
 use Rattle.commands.specs.declared.logs.Log.{Log}
 use Rattle.commands.specs.declared.texts.Texts.{Texts}
@@ -111,10 +111,10 @@ pub direction_from : (sees also : FileReading) (r : DirectRequest) → ((x : Res
 direction_from sees also r more i texts (directives, h, rest) = (directives, directives_from sees also r.directives more directives h, rest)
 
 -- what is compared and was read stays read
-pub compared_again : (bad : ℕ → Fault) (holds : List ℕ → Holding) (before then now : List ℕ → ℕ) (name : List ℕ) (compared : Compared) → IsComparedFile bad (reads holds before then) name (Ok compared) → IsComparedFile bad (reads holds before now) name (Ok compared)
+pub compared_again : (bad : ℕ → Fault) (holds : List ℕ → Holding) (before then now : List ℕ → ℕ) (name : List ℕ) (compared : ComparedFile) → IsComparedFile bad (reads holds before then) name (Ok compared) → IsComparedFile bad (reads holds before now) name (Ok compared)
 compared_again bad holds before then now name compared (Ok bytes, (Ok whole, h, short), is) = (Ok bytes, (Ok whole, h, short), is)
 compared_again bad holds before then now name compared (Ok bytes, (Err fault, h, short), is) = absurd (cc)
 compared_again bad holds before then now name compared (Err fault, h, is) = absurd (cc)
 
-pub compared_from : (bad : ℕ → Fault) (sees also : FileReading) (name : List ℕ) → ((r : Result (List ℕ) Fault) → sees name r → also name r) → (compared : Result Compared Fault) → IsComparedFile bad sees name compared → IsComparedFile bad also name compared
+pub compared_from : (bad : ℕ → Fault) (sees also : FileReading) (name : List ℕ) → ((r : Result (List ℕ) Fault) → sees name r → also name r) → (compared : Result ComparedFile Fault) → IsComparedFile bad sees name compared → IsComparedFile bad also name compared
 compared_from bad sees also name more compared (content, (bytes, h, short), is) = (content, (bytes, more bytes h, short), is)

@@ -41,7 +41,7 @@ use Rattle.session_spec.specs.declared.data.RefusedWish.{RefusedWish}
 use Rattle.whole_run.specs.Replayed.{misfit_of}
 use Rattle.whole_run.specs.Seeded.{OneSeeded}
 use Rattle.commands.specs.Advising.{advice_texts, IsAdviseDue, IsReportContent}
-use Rattle.commands.specs.Differing.{IsComparedFile, IsDiffDue, compared_in, diff_of}
+use Rattle.commands.specs.Differing.{IsComparedFile, IsDiffDue, compared_file, diff_of}
 use Rattle.commands.specs.Showing.{report_view_texts, IsShowDue}
 use Rattle.commands.specs.Asking.{IsAsk, IsAskAt, IsAskDue, IsAskFor, IsAskOf, known, shipped_metrics}
 use Rattle.commands.specs.Output.{output}
@@ -60,7 +60,7 @@ use Rattle.commands.specs.Due.{AreLike, AreOne, IsDue, IsDueFor, is_live}
 use Rattle.commands.specs.FileReadings.{FileReading, limited, IsContent}
 use Rattle.commands.specs.declared.advising.TheConstants.{REPORT_LIMIT}
 use Rattle.commands.specs.declared.configuration.TheConstants.{CONFIGURATION_LIMIT}
-use Rattle.commands.specs.declared.differing.Compared.{Compared}
+use Rattle.commands.specs.declared.differing.ComparedFile.{ComparedFile}
 use Rattle.commands.specs.declared.directing.TheConstants.{DIRECTIVES_LIMIT}
 use Rattle.commands.specs.declared.finding.Found.{Found}
 use Rattle.commands.specs.declared.inputs.Inputs.{Inputs}
@@ -288,12 +288,12 @@ module _ (laws : Laws) where
 
     compared_once : (bad : ℕ → Fault) (name : List ℕ) → IsOne (IsComparedFile bad sees name)
     compared_once bad name =
-        one_then (IsContent sees REPORT_LIMIT (bad REPORT_LIMIT) name) (λ bytes compared. compared ≡ compared_in bad bytes) (content_once REPORT_LIMIT (bad REPORT_LIMIT) name)
-        (λ bytes. equal_once (compared_in bad bytes))
+        one_then (IsContent sees REPORT_LIMIT (bad REPORT_LIMIT) name) (λ bytes compared. compared ≡ compared_file bad bytes) (content_once REPORT_LIMIT (bad REPORT_LIMIT) name)
+        (λ bytes. equal_once (compared_file bad bytes))
 
     diff_due_once : (q : DiffRequest) → IsOne (IsDiffDue q sees)
     diff_due_once q =
-        let ended : Compared → Compared → Step Texts = λ old new texts. texts ≡ diff_of old new in
+        let ended : ComparedFile → ComparedFile → Step Texts = λ old new texts. texts ≡ diff_of old new in
         one_then (IsComparedFile BadReport sees q.old) (λ old. Then (IsComparedFile BadNewReport sees q.new) (ended old)) (compared_once BadReport q.old)
         (λ old. one_then (IsComparedFile BadNewReport sees q.new) (ended old) (compared_once BadNewReport q.new) (λ new. equal_once (diff_of old new)))
 

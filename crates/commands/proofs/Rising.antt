@@ -54,7 +54,7 @@ use Rattle.report_diff.specs.Diff.{diff_text}
 use Rattle.report_reader.specs.Reading.{report_in}
 use Rattle.report_reader.specs.declared.whole_report.Report.{Report}
 use Rattle.commands.specs.Asking.{IsAsk, IsAskAt, IsAskDue, IsAskFor, IsAskOf, known, shipped_metrics}
-use Rattle.commands.specs.Differing.{IsComparedFile, IsDiffDue, are_alike, begins_profile, compared_in, diff_of, of_profile, of_report}
+use Rattle.commands.specs.Differing.{IsComparedFile, IsDiffDue, are_alike, begins_profile, compared_file, diff_of, compared_profile, compared_report}
 use Rattle.commands.specs.Showing.{report_view_texts, IsShowDue}
 use Rattle.commands.specs.Advising.{advice_texts, IsAdviseDue, IsReportContent}
 use Rattle.commands.specs.Output.{output}
@@ -71,7 +71,7 @@ use Rattle.commands.specs.Plans.{metric_named, or_unknown, or_bad_focus, IsSelec
 use Rattle.commands.specs.FileReadings.{FileReading, reads, limited, IsContent}
 use Rattle.commands.specs.declared.advising.TheConstants.{REPORT_LIMIT}
 use Rattle.commands.specs.declared.configuration.TheConstants.{CONFIGURATION_LIMIT}
-use Rattle.commands.specs.declared.differing.Compared.{Compared}
+use Rattle.commands.specs.declared.differing.ComparedFile.{ComparedFile}
 use Rattle.commands.specs.declared.directing.TheConstants.{DIRECTIVES_LIMIT}
 use Rattle.commands.specs.declared.finding.Found.{Found}
 use Rattle.commands.specs.declared.inputs.Inputs.{Inputs}
@@ -178,20 +178,20 @@ view_spared : (q : ShowRequest) (r : Result Report ReportFault) → Spares (repo
 view_spared q (Ok report) = tt
 view_spared q (Err (report_fault.BadReport place)) = tt
 
-of_report_spared : (bad : ℕ → Fault) → ((place : ℕ) → NotFile (bad place)) → (r : Result Report ReportFault) → Spares (of_report bad r)
-of_report_spared bad spare (Ok report) = tt
-of_report_spared bad spare (Err (report_fault.BadReport place)) = spare place
+compared_report_spared : (bad : ℕ → Fault) → ((place : ℕ) → NotFile (bad place)) → (r : Result Report ReportFault) → Spares (compared_report bad r)
+compared_report_spared bad spare (Ok report) = tt
+compared_report_spared bad spare (Err (report_fault.BadReport place)) = spare place
 
-of_profile_spared : (bad : ℕ → Fault) → ((place : ℕ) → NotFile (bad place)) → (r : Result ReadProfile ReportFault) → Spares (of_profile bad r)
-of_profile_spared bad spare (Ok p) = tt
-of_profile_spared bad spare (Err (report_fault.BadReport place)) = spare place
+compared_profile_spared : (bad : ℕ → Fault) → ((place : ℕ) → NotFile (bad place)) → (r : Result ReadProfile ReportFault) → Spares (compared_profile bad r)
+compared_profile_spared bad spare (Ok p) = tt
+compared_profile_spared bad spare (Err (report_fault.BadReport place)) = spare place
 
-compared_spared : (bad : ℕ → Fault) → ((place : ℕ) → NotFile (bad place)) → (bytes : List ℕ) → Spares (compared_in bad bytes)
+compared_spared : (bad : ℕ → Fault) → ((place : ℕ) → NotFile (bad place)) → (bytes : List ℕ) → Spares (compared_file bad bytes)
 compared_spared bad spare bytes =
-    if_spared (begins_profile bytes) (of_profile bad (profile_in bytes)) (of_report bad (report_in bytes))
-    (of_profile_spared bad spare (profile_in bytes)) (of_report_spared bad spare (report_in bytes))
+    if_spared (begins_profile bytes) (compared_profile bad (profile_in bytes)) (compared_report bad (report_in bytes))
+    (compared_profile_spared bad spare (profile_in bytes)) (compared_report_spared bad spare (report_in bytes))
 
-diff_spared : (old new : Compared) → Spares (diff_of old new)
+diff_spared : (old new : ComparedFile) → Spares (diff_of old new)
 diff_spared old new = if_spared (are_alike old new) (Ok (output (diff_text old.parts new.parts))) (Err (BadNewReport 0)) tt tt
 
 ask_spared : (q : AskRequest) (image : Image) (found : Found) (name : List ℕ) → IsAsk q image found (Err (FileFault name)) → ⊥
@@ -297,13 +297,13 @@ module _ (name : List ℕ) (P : Type 0) (sees : FileReading) (at_file : (other :
 
   at_compared : (bad : ℕ → Fault) → ((place : ℕ) → NotFile (bad place)) → (other : List ℕ) → IsComparedFile bad sees other (Err (FileFault name)) → P
   at_compared bad spare other =
-      of_either P (IsContent sees REPORT_LIMIT (bad REPORT_LIMIT) other) (λ bytes compared. compared ≡ compared_in bad bytes) (FileFault name)
+      of_either P (IsContent sees REPORT_LIMIT (bad REPORT_LIMIT) other) (λ bytes compared. compared ≡ compared_file bad bytes) (FileFault name)
       (at_content name P sees at_file REPORT_LIMIT (bad REPORT_LIMIT) other (spare REPORT_LIMIT))
-      (λ bytes e. absurd (spared (compared_in bad bytes) name (compared_spared bad spare bytes) e))
+      (λ bytes e. absurd (spared (compared_file bad bytes) name (compared_spared bad spare bytes) e))
 
   at_diff : (q : DiffRequest) → IsDiffDue q sees (Err (FileFault name)) → P
   at_diff q =
-      let ended : Compared → Compared → Result Texts Fault → Type 0 = λ old new texts. texts ≡ diff_of old new in
+      let ended : ComparedFile → ComparedFile → Result Texts Fault → Type 0 = λ old new texts. texts ≡ diff_of old new in
       of_either P (IsComparedFile BadReport sees q.old) (λ old. Then (IsComparedFile BadNewReport sees q.new) (ended old)) (FileFault name)
       (at_compared BadReport (λ place. tt) q.old)
       (λ old. of_either P (IsComparedFile BadNewReport sees q.new) (ended old) (FileFault name) (at_compared BadNewReport (λ place. tt) q.new)

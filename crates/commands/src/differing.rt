@@ -2,7 +2,7 @@
 
 ghost use Rattle.std.specs.Prelude.{◌≡◌, ◌<◌, ◌^◌, IfOk, sum_by};
 ghost use Rattle.command_words.specs.Asked.{asked_diff};
-ghost use Rattle.commands.specs.Differing.{IsComparedFile, IsDiffDue, are_alike, begins_profile, compared_in, diff_of, of_profile, of_report};
+ghost use Rattle.commands.specs.Differing.{IsComparedFile, IsDiffDue, are_alike, begins_profile, compared_file, diff_of, compared_profile, compared_report};
 ghost use Rattle.commands.specs.FileReadings.{reads, Looks};
 ghost use Rattle.commands.specs.Sides.{bad_side};
 ghost use Rattle.profile_reader.specs.Reading.{profile_in};
@@ -33,7 +33,7 @@ enum Side {
 
 /// What is compared of a file.
 #[derive(Drop)]
-pub struct Compared {
+pub struct ComparedFile {
     /// It is a profile, and not a report.
     pub is_profile: bool,
     /// What it says, a profile as the parts of a report.
@@ -51,12 +51,12 @@ fn bad_report(side: Side, place: u64) -> Fault
 }
 
 /// Returns what is compared of the report that bytes are.
-fn of_report(alloc: Global, side: Side, bytes: &[u8]) -> Result<Compared, Refusal>
-    ensures compared { Comes result (λ compared. compared ≡ of_report (bad_side side) (report_in bytes.now)) }
+fn compared_report(alloc: Global, side: Side, bytes: &[u8]) -> Result<ComparedFile, Refusal>
+    ensures compared { Comes result (λ compared. compared ≡ compared_report (bad_side side) (report_in bytes.now)) }
     ensures ticks { IfOk result (λ compared. sum_by (λ part. part.ticks) compared.parts.harts < 2 ^ 64) }
 {
     match read_report(alloc, bytes) {
-        Ok(report) => Ok(Compared {
+        Ok(report) => Ok(ComparedFile {
             is_profile: false,
             parts: report.parts,
         }),
@@ -68,12 +68,12 @@ fn of_report(alloc: Global, side: Side, bytes: &[u8]) -> Result<Compared, Refusa
 }
 
 /// Returns what is compared of the profile that bytes are.
-fn of_profile(alloc: Global, side: Side, bytes: &[u8]) -> Result<Compared, Refusal>
-    ensures compared { Comes result (λ compared. compared ≡ of_profile (bad_side side) (profile_in bytes.now)) }
+fn compared_profile(alloc: Global, side: Side, bytes: &[u8]) -> Result<ComparedFile, Refusal>
+    ensures compared { Comes result (λ compared. compared ≡ compared_profile (bad_side side) (profile_in bytes.now)) }
     ensures ticks { IfOk result (λ compared. sum_by (λ part. part.ticks) compared.parts.harts < 2 ^ 64) }
 {
     match read_profile(alloc, bytes) {
-        Ok(profile) => Ok(Compared {
+        Ok(profile) => Ok(ComparedFile {
             is_profile: true,
             parts: profile_parts(alloc, profile)?,
         }),
@@ -92,14 +92,14 @@ fn begins_profile(bytes: &[u8]) -> bool
 }
 
 /// Returns what is compared of the report or the profile that bytes are.
-fn compared_in(alloc: Global, side: Side, bytes: &[u8]) -> Result<Compared, Refusal>
-    ensures compared { Comes result (λ compared. compared ≡ compared_in (bad_side side) bytes.now) }
+fn compared_file(alloc: Global, side: Side, bytes: &[u8]) -> Result<ComparedFile, Refusal>
+    ensures compared { Comes result (λ compared. compared ≡ compared_file (bad_side side) bytes.now) }
     ensures ticks { IfOk result (λ compared. sum_by (λ part. part.ticks) compared.parts.harts < 2 ^ 64) }
 {
     if begins_profile(bytes) {
-        of_profile(alloc, side, bytes)
+        compared_profile(alloc, side, bytes)
     } else {
-        of_report(alloc, side, bytes)
+        compared_report(alloc, side, bytes)
     }
 }
 
@@ -109,18 +109,18 @@ fn read_side<F: Files>(
     files: &mut F,
     name: &str,
     side: Side,
-) -> Result<Compared, Refusal>
+) -> Result<ComparedFile, Refusal>
     ensures compared { Comes result (IsComparedFile (bad_side side) (reads (F.holds files.old) (F.faults files.old) (F.faults files.new)) name.now) }
     ensures ticks { IfOk result (λ compared. sum_by (λ part. part.ticks) compared.parts.harts < 2 ^ 64) }
     ensures looks { Looks F.holds F.faults files.old files.new result }
 {
     let too_long = bad_report(side, REPORT_LIMIT);
     let bytes = read_file(alloc, files, name, REPORT_LIMIT, too_long)?;
-    compared_in(alloc, side, bytes.as_slice())
+    compared_file(alloc, side, bytes.as_slice())
 }
 
 /// Returns whether both are profiles, or both are reports.
-fn are_alike(old: &Compared, new: &Compared) -> bool
+fn are_alike(old: &ComparedFile, new: &ComparedFile) -> bool
     ensures { result ≡ are_alike old.now new.now }
 {
     if old.is_profile {
@@ -131,7 +131,7 @@ fn are_alike(old: &Compared, new: &Compared) -> bool
 }
 
 /// Returns what differs.
-fn diff_of(alloc: Global, old: &Compared, new: &Compared) -> Result<Texts, Refusal>
+fn diff_of(alloc: Global, old: &ComparedFile, new: &ComparedFile) -> Result<Texts, Refusal>
     requires old { sum_by (λ part. part.ticks) old.now.parts.harts < 2 ^ 64 }
     requires new { sum_by (λ part. part.ticks) new.now.parts.harts < 2 ^ 64 }
     ensures { Comes result (λ texts. texts ≡ diff_of old.now new.now) }

@@ -32,7 +32,7 @@ pub use advising::advise;
 pub use annotating::annotate;
 pub use asking::ask;
 pub use counting::blocks;
-pub use differing::{Compared, diff};
+pub use differing::{ComparedFile, diff};
 pub use directing::direct;
 pub use finding::{Found, find};
 pub use inputs::{Inputs, read_inputs};

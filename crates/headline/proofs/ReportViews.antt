@@ -4,11 +4,11 @@ use Rattle.advice.specs.declared.fault.ReportFault.{ReportFault}
 use Rattle.advice.specs.declared.fault.ReportFault.TheVariants as fault
 use Rattle.command_words.specs.Requests.{DiffRequest, ShowRequest, diff, show}
 use Rattle.commands.specs.Advising.{IsReportContent}
-use Rattle.commands.specs.Differing.{IsComparedFile, IsDiffDue, begins_profile, compared_in, diff_of, of_profile, of_report}
+use Rattle.commands.specs.Differing.{IsComparedFile, IsDiffDue, begins_profile, compared_file, diff_of, compared_profile, compared_report}
 use Rattle.commands.specs.FileReadings.{FileReading, IsContent}
 use Rattle.commands.specs.Output.{output}
 use Rattle.commands.specs.Showing.{IsShowDue, view_of, report_view_texts}
-use Rattle.commands.specs.declared.differing.Compared.{Compared}
+use Rattle.commands.specs.declared.differing.ComparedFile.{ComparedFile}
 use Rattle.commands.specs.declared.texts.Texts.{Texts}
 use Rattle.profile_reader.specs.Laws.{ProfileIsSpelled}
 use Rattle.profile_reader.specs.Pairs.{profile_parts}
@@ -36,33 +36,33 @@ show_tells spelled sees texts q due =
 
 -- ---- diff
 
-report_compared : ReportIsSpelled → (bad : ℕ → Fault) (bytes : List ℕ) (c : Compared) (x : Result Report ReportFault) → report_in bytes ≡ x → Ok c ≡ of_report bad x → IsComparedText bytes c
+report_compared : ReportIsSpelled → (bad : ℕ → Fault) (bytes : List ℕ) (c : ComparedFile) (x : Result Report ReportFault) → report_in bytes ≡ x → Ok c ≡ compared_report bad x → IsComparedText bytes c
 report_compared spelled bad bytes c (Ok r) is e = inl (r, spelled bytes r is, ok_is c (record { is_profile = false; parts = r.parts }) e)
 report_compared spelled bad bytes c (Err (fault.BadReport place)) is e = absurd (cc)
 
-profile_compared : ProfileIsSpelled → (bad : ℕ → Fault) (bytes : List ℕ) (c : Compared) (x : Result ReadProfile ReportFault) → profile_in bytes ≡ x → Ok c ≡ of_profile bad x → IsComparedText bytes c
+profile_compared : ProfileIsSpelled → (bad : ℕ → Fault) (bytes : List ℕ) (c : ComparedFile) (x : Result ReadProfile ReportFault) → profile_in bytes ≡ x → Ok c ≡ compared_profile bad x → IsComparedText bytes c
 profile_compared spelled bad bytes c (Ok p) is e = inr (p, spelled bytes p is, ok_is c (record { is_profile = true; parts = profile_parts p }) e)
 profile_compared spelled bad bytes c (Err (fault.BadReport place)) is e = absurd (cc)
 
-compared_text : ReportIsSpelled → ProfileIsSpelled → (bad : ℕ → Fault) (bytes : List ℕ) (c : Compared) (is : Bool) → begins_profile bytes ≡ is → Ok c ≡ compared_in bad bytes → IsComparedText bytes c
-compared_text reports profiles bad bytes c true is e = profile_compared profiles bad bytes c (profile_in bytes) refl (e ∙ ap (λ (b : Bool). cond b (of_profile bad (profile_in bytes)) (of_report bad (report_in bytes))) is)
-compared_text reports profiles bad bytes c false is e = report_compared reports bad bytes c (report_in bytes) refl (e ∙ ap (λ (b : Bool). cond b (of_profile bad (profile_in bytes)) (of_report bad (report_in bytes))) is)
+compared_text : ReportIsSpelled → ProfileIsSpelled → (bad : ℕ → Fault) (bytes : List ℕ) (c : ComparedFile) (is : Bool) → begins_profile bytes ≡ is → Ok c ≡ compared_file bad bytes → IsComparedText bytes c
+compared_text reports profiles bad bytes c true is e = profile_compared profiles bad bytes c (profile_in bytes) refl (e ∙ ap (λ (b : Bool). cond b (compared_profile bad (profile_in bytes)) (compared_report bad (report_in bytes))) is)
+compared_text reports profiles bad bytes c false is e = report_compared reports bad bytes c (report_in bytes) refl (e ∙ ap (λ (b : Bool). cond b (compared_profile bad (profile_in bytes)) (compared_report bad (report_in bytes))) is)
 
 -- a file has the text of what was read
-record IsRead (sees : FileReading) (name : List ℕ) (c : Compared) : Type 0 where
+record IsRead (sees : FileReading) (name : List ℕ) (c : ComparedFile) : Type 0 where
   bytes : List ℕ
   told : sees name (Ok bytes)
   text : IsComparedText bytes c
 
-read : ReportIsSpelled → ProfileIsSpelled → (bad : ℕ → Fault) (sees : FileReading) (name : List ℕ) (c : Compared) → IsComparedFile bad sees name (Ok c) → IsRead sees name c
+read : ReportIsSpelled → ProfileIsSpelled → (bad : ℕ → Fault) (sees : FileReading) (name : List ℕ) (c : ComparedFile) → IsComparedFile bad sees name (Ok c) → IsRead sees name c
 read reports profiles bad sees name c step =
-    let b = came (IsContent sees 33554432 (bad 33554432) name) (λ bytes compared. compared ≡ compared_in bad bytes) c step in
+    let b = came (IsContent sees 33554432 (bad 33554432) name) (λ bytes compared. compared ≡ compared_file bad bytes) c step in
     let k = content_of sees 33554432 _ name b.a b.first in
     record { bytes = b.a; told = k.told; text = compared_text reports profiles bad b.a c (begins_profile b.a) refl b.next }
 
 pub diff_tells : ReportIsSpelled → ProfileIsSpelled → (sees : FileReading) (texts : Texts) (q : DiffRequest) → IsDiffDue q sees (Ok texts) → Tells (Some (diff q)) sees texts
 diff_tells reports profiles sees texts q due =
-    let ended : Compared → Compared → Step Texts = λ old new t. t ≡ diff_of old new in
+    let ended : ComparedFile → ComparedFile → Step Texts = λ old new t. t ≡ diff_of old new in
     let o = came (IsComparedFile BadReport sees q.old) (λ old. Then (IsComparedFile BadNewReport sees q.new) (ended old)) texts due in
     let n = came (IsComparedFile BadNewReport sees q.new) (ended o.a) texts o.next in
     let old = read reports profiles BadReport sees q.old o.a o.first in

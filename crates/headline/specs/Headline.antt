@@ -20,7 +20,7 @@ use Rattle.commands.specs.Runnable.{IsConfOf, IsImageOf}
 use Rattle.commands.specs.Showing.{view_of}
 use Rattle.commands.specs.Runs.{IsByWorkers, IsInOrder, Order, stress_order, stress_session, stress_sight}
 use Rattle.commands.specs.FileReadings.{FileReading}
-use Rattle.commands.specs.declared.differing.Compared.{Compared}
+use Rattle.commands.specs.declared.differing.ComparedFile.{ComparedFile}
 use Rattle.commands.specs.declared.finding.Found.{Found}
 use Rattle.commands.specs.declared.texts.Texts.{Texts}
 use Rattle.directives.specs.Acts.{applied}
@@ -115,7 +115,7 @@ pub record IsDirectedBy (sees : FileReading) (name : List ℕ) (r : Run) : Type 
   pub followed : IfSome r.parts.search (AreFollowed r.spelled.items directives)
 
 -- The bytes are the text of a report or of a profile, and this is compared of it.
-abbrev pub IsComparedText : List ℕ → Compared → Type 0
+abbrev pub IsComparedText : List ℕ → ComparedFile → Type 0
 IsComparedText bytes c =
     ((r : Report) × (report_text r.parts r.skipped ≡ bytes) × (c ≡ record { is_profile = false; parts = r.parts }))
     ⊎ ((p : ReadProfile) × (profile_spelling p ≡ bytes) × (c ≡ record { is_profile = true; parts = profile_parts p }))
@@ -175,7 +175,7 @@ Tells (Some (show q)) sees texts =
 -- The files are the texts of two reports or of two profiles, and what differs between these is told.
 Tells (Some (diff q)) sees texts =
     (old new : List ℕ) × sees q.old (Ok old) × sees q.new (Ok new)
-    × (a b : Compared) × IsComparedText old a × IsComparedText new b × (Ok texts ≡ diff_of a b)
+    × (a b : ComparedFile) × IsComparedText old a × IsComparedText new b × (Ok texts ≡ diff_of a b)
 -- The wishes are for the shipped metrics, below the focus.
 Tells (Some (ask q)) sees texts =
     (image : Image) × IsProgramOf sees q.counted.program image × (conf : Conf) × IsConfOf shipped_metrics conf

@@ -2,6 +2,7 @@
 use Rattle.std.specs.Prelude.{ℕ, Option, List, [], ◌++◌, codes, flat_map, map, take}
 use Rattle.std.specs.Fmt.{decimal}
 use Rattle.std.specs.Option.{option_map_or}
+use Rattle.first_places.specs.Groups.{first_mentions}
 use Rattle.report.specs.ShownTexts.{pair_text}
 
 -- the metrics at a focus, and at all foci, one after another
@@ -24,6 +25,7 @@ drop_lines at pairs = flat_map (wish_line at (codes " drop ")) pairs
 abbrev pub wishes : ℕ → Option ℕ → List (List ℕ) → List ℕ
 wishes from until pairs = show_lines from pairs ++ option_map_or (λ at. drop_lines at pairs) until []
 
--- The shipped metrics, and wishes for the first so many pairs of these metrics and foci, from a tick on, and up to one where that is told.
+-- The shipped metrics, and wishes for the first so many distinct pairs of these metrics and foci, from a tick on, and up to one where
+-- that is told.
 abbrev pub ask_text : List (List ℕ) → List (List ℕ) → ℕ → ℕ → Option ℕ → List ℕ
-ask_text metrics foci limit from until = codes "include metrics;\n" ++ wishes from until (take limit (pairs metrics foci))
+ask_text metrics foci limit from until = codes "include metrics;\n" ++ wishes from until (take limit (first_mentions (pairs metrics foci)))

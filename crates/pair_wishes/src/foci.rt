@@ -5,6 +5,7 @@ ghost use Rattle.resource_tree.specs.FocusTexts.{is_comma};
 ghost use Rattle.first_places.specs.Groups.{first_mentions};
 ghost use Rattle.pair_wishes.specs.Foci.{code_len, code_part, focus_at, is_within, module_foci, module_node, other_parts, procedure_foci, procedure_node};
 
+use crate::distinct::add_distinct;
 use first_places::FirstPlaces;
 use pn_types::{NoMemory, Proc, Text};
 use std::alloc::Global;
@@ -95,24 +96,6 @@ fn procedure_nodes(alloc: Global, procs: &[&Proc]) -> Result<Vec<Text>, NoMemory
         nodes.push(procedure_node(alloc, proc)?)?;
     }
     Ok(nodes)
-}
-
-/// Adds a node, where it isn't among those that were seen, and notes that it was.
-fn add_distinct(
-    alloc: Global,
-    seen: &mut FirstPlaces,
-    distinct: &mut Vec<Text>,
-    node: Text,
-) -> Result<(), NoMemory>
-    requires { distinct.old.items ≡ first_mentions seen.old }
-    ensures seen { OnOk result (seen.new ≡ seen.old ++ node ∷ []) }
-    ensures distinct { OnOk result (distinct.new.items ≡ first_mentions seen.new) }
-{
-    let known = seen.push(alloc, node.bytes())?;
-    if !known {
-        distinct.push(node)?;
-    }
-    Ok(())
 }
 
 /// Returns the nodes of the modules of procedures, each once.

@@ -1,6 +1,7 @@
 //! Wishes: a configuration that asks for metrics at foci, and the foci of procedures and modules.
 #![tactic(auto)]
 
+mod distinct;
 mod foci;
 mod wishes;
 

@@ -1,9 +1,12 @@
 //! The text of a configuration that asks for metrics at foci.
 
 ghost use Rattle.std.specs.Prelude.{◌≡◌, ◌++◌, flat_map, map, take, IfOk, OnOk};
+ghost use Rattle.first_places.specs.Groups.{first_mentions};
 ghost use Rattle.pair_wishes.specs.Wishes.{ask_text, pairs, pairs_at, wish_line};
 ghost use Rattle.report.specs.ShownTexts.{pair_text};
 
+use crate::distinct::add_distinct;
+use first_places::FirstPlaces;
 use pn_types::{NoMemory, Text};
 use std::alloc::Global;
 
@@ -26,30 +29,34 @@ fn pair(alloc: Global, metric: &[u8], focus: &[u8]) -> Result<Text, NoMemory>
     Ok(Text::from_vec(text))
 }
 
-/// Adds the metrics at a focus.
+/// Adds the metrics at a focus, of all pairs each once, and notes that they were seen.
 fn add_pairs(
     alloc: Global,
-    pairs: &mut Vec<Text>,
+    seen: &mut FirstPlaces,
+    distinct: &mut Vec<Text>,
     metrics: &[&[u8]],
     focus: &[u8],
 ) -> Result<(), NoMemory>
-    ensures { OnOk result (pairs.new.items ≡ pairs.old.items ++ pairs_at (map (λ metric. metric.now) metrics.now) focus.now) }
+    requires { distinct.old.items ≡ first_mentions seen.old }
+    ensures seen { OnOk result (seen.new ≡ seen.old ++ pairs_at (map (λ metric. metric.now) metrics.now) focus.now) }
+    ensures distinct { OnOk result (distinct.new.items ≡ first_mentions seen.new) }
 {
     for metric in metrics {
-        pairs.push(pair(alloc, metric, focus)?)?;
+        add_distinct(alloc, seen, distinct, pair(alloc, metric, focus)?)?;
     }
     Ok(())
 }
 
-/// Returns the metrics at all foci.
-fn pairs(alloc: Global, metrics: &[&[u8]], foci: &[Text]) -> Result<Vec<Text>, NoMemory>
-    ensures { IfOk result (λ all. all.items ≡ pairs (map (λ metric. metric.now) metrics.now) foci.now) }
+/// Returns the distinct pairs of metrics and foci.
+fn distinct_pairs(alloc: Global, metrics: &[&[u8]], foci: &[Text]) -> Result<Vec<Text>, NoMemory>
+    ensures { IfOk result (λ all. all.items ≡ first_mentions (pairs (map (λ metric. metric.now) metrics.now) foci.now)) }
 {
-    let mut pairs = Vec::new(alloc);
+    let mut seen = FirstPlaces::new(alloc);
+    let mut distinct = Vec::new(alloc);
     for focus in foci {
-        add_pairs(alloc, &mut pairs, metrics, focus.bytes())?;
+        add_pairs(alloc, &mut seen, &mut distinct, metrics, focus.bytes())?;
     }
-    Ok(pairs)
+    Ok(distinct)
 }
 
 /// Adds a wish.
@@ -92,8 +99,8 @@ fn first_pairs(pairs: &[Text], limit: u32) -> &[Text]
     &pairs[..pairs.len().min(limit as usize)]
 }
 
-/// Returns a configuration that asks for the first so many pairs of metrics, by name, and foci: each focus with all metrics, one after
-/// another.
+/// Returns a configuration that asks for the first so many distinct pairs of metrics, by name, and foci: each focus with all metrics,
+/// one after another.
 ///
 /// # Errors
 ///
@@ -108,7 +115,7 @@ pub fn ask_text(
     ensures { IfOk result
         (λ text. text.items ≡ ask_text (map (λ metric. metric.now) metrics.now) foci.now limit interval.from interval.until) }
 {
-    let pairs = pairs(alloc, metrics, foci)?;
+    let pairs = distinct_pairs(alloc, metrics, foci)?;
     let first = first_pairs(&pairs, limit);
     let mut out = Vec::from_slice(alloc, b"include metrics;\n")?;
     add_wishes(alloc, &mut out, interval.from, b" show ", first)?;

@@ -7,12 +7,12 @@ use Rattle.refusals.specs.declared.fault.Fault.TheVariants.{BadReport, BadNewRep
 use Rattle.commands.proofs.FileReadingSteps.{compared_again, compared_from, refuses_as, seen_from}
 use Rattle.commands.specs.Differing.{IsComparedFile, diff_of}
 use Rattle.commands.specs.FileReadings.{FileReading, reads}
-use Rattle.commands.specs.declared.differing.Compared.{Compared}
+use Rattle.commands.specs.declared.differing.ComparedFile.{ComparedFile}
 use Rattle.commands.specs.declared.texts.Texts.{Texts}
 use Rattle.commands.proofs.differing.diff.Goals as goal
 
 -- what differs between two reports
-abbrev ended : Compared → Compared → Step Texts
+abbrev ended : ComparedFile → ComparedFile → Step Texts
 ended old new texts = texts ≡ diff_of old new
 
 pub returns-in_err-new-clause-due : goal.returns-in_err-new-clause-due
