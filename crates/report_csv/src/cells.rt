@@ -119,7 +119,7 @@ pub(crate) fn text(alloc: Global, bytes: &[u8]) -> Result<Option<Vec<u8>>, NoMem
 pub(crate) fn number(alloc: Global, number: u64) -> Result<Option<Vec<u8>>, NoMemory>
     ensures { IfOk result (λ cell. cell_bytes cell ≡ decimal number) }
 {
-    text(alloc, format!(in alloc; "{number}")?.as_bytes())
+    Ok(Some(format!(in alloc; "{number}")?.into_bytes()))
 }
 
 /// Returns the cell of a number that may be missing.
@@ -137,12 +137,12 @@ pub(crate) fn signed(alloc: Global, value: u64) -> Result<Option<Vec<u8>>, NoMem
     ensures { IfOk result (λ cell. cell_bytes cell ≡ signed value) }
 {
     let value = value.cast_signed();
-    text(alloc, format!(in alloc; "{value}")?.as_bytes())
+    Ok(Some(format!(in alloc; "{value}")?.into_bytes()))
 }
 
 /// Returns the cell of a cause.
 pub(crate) fn cause(alloc: Global, cause: PickCause) -> Result<Option<Vec<u8>>, NoMemory>
     ensures { IfOk result (λ cell. cell_bytes cell ≡ cause_text cause) }
 {
-    text(alloc, format!(in alloc; "{cause}")?.as_bytes())
+    Ok(Some(format!(in alloc; "{cause}")?.into_bytes()))
 }

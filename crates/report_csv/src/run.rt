@@ -66,7 +66,7 @@ fn add_samples(alloc: Global, out: &mut Writer<Vec<u8>>, samples: u64) -> Result
 fn stop(alloc: Global, stop: StopText) -> Result<Option<Vec<u8>>, NoMemory>
     ensures { IfOk result (λ cell. cell_bytes cell ≡ stop_text stop) }
 {
-    text(alloc, format!(in alloc; "{stop}")?.as_bytes())
+    Ok(Some(format!(in alloc; "{stop}")?.into_bytes()))
 }
 
 /// Adds a hart.

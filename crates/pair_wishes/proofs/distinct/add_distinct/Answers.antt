@@ -1,5 +1,5 @@
 use Rattle.std.proofs.Common.{◌≡◌, true, false, arith}
-use Rattle.pair_wishes.proofs.Distinct.{taken, left_out}
+use Rattle.pair_wishes.proofs.Mentions.{taken, left_out}
 use Rattle.pair_wishes.proofs.distinct.add_distinct.Goals as goal
 
 -- src/distinct.rt:10:1
