@@ -29,7 +29,7 @@ pub struct Store {
     /// The program's words, which stay.
     words: Vec<u32>,
     text: Span,
-    /// What the text's words do, apart from their slots, so that the program's words run one after another by these alone.
+    /// The flats of the text's words, apart from their slots, so that the program's words run one after another by these alone.
     flats: Vec<Flat>,
     tool: Span,
     /// What the words of the tool text are for.
@@ -136,8 +136,8 @@ impl Store {
         }
     }
 
-    /// The first address of the text, and what each of its words does that a hart outside fetches: for another word than one of the
-    /// program, no instruction.
+    /// The first address of the text, and the flat of each of its words that a hart outside fetches: for another word than one of the
+    /// program, `Rest`.
     #[inline(always)]
     pub fn flats(&self) -> (u64, &[Flat])
         ensures flats { (pc : ℕ) → IsFlatAt (fetched_at self.now.program self.now.code pc false) (at_place result.0 result.1.now pc) }
