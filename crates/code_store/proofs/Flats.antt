@@ -5,7 +5,7 @@ use Rattle.std.proofs.lemmas.Option.{slice_get-get_or}
 use Rattle.rv_exec.specs.declared.flat.Flat.{Flat}
 use Rattle.tramp_spec.specs.Codes.{is_word_of}
 use Rattle.tramp_spec.specs.declared.mark.MarkedWord.{MarkedWord}
-use Rattle.code_store.specs.Operations.{AreFlatsOf, IsFlatAt, IsFlatOf}
+use Rattle.code_store.specs.Operations.{AreFlatsOf, IsFlatAt, IsMarkedFlat}
 use Rattle.code_store.specs.Views.{at_place}
 
 pub flats_long : (ws : List MarkedWord) (flats : List Flat) → AreFlatsOf ws flats → length flats ≡ length ws
@@ -14,13 +14,13 @@ flats_long (w ∷ ws) (flat ∷ flats) a = ap suc (flats_long ws flats a.1)
 flats_long [] (flat ∷ flats) a = absurd a
 flats_long (w ∷ ws) [] a = absurd a
 
-pub flats_more : (ws : List MarkedWord) (flats : List Flat) (w : MarkedWord) (flat : Flat) → AreFlatsOf ws flats → IsFlatOf w flat → AreFlatsOf (ws ++ w ∷ []) (flats ++ flat ∷ [])
+pub flats_more : (ws : List MarkedWord) (flats : List Flat) (w : MarkedWord) (flat : Flat) → AreFlatsOf ws flats → IsMarkedFlat w flat → AreFlatsOf (ws ++ w ∷ []) (flats ++ flat ∷ [])
 flats_more [] [] w flat a is = (is, tt)
 flats_more (v ∷ ws) (f ∷ flats) w flat a is = (a.0, flats_more ws flats w flat a.1 is)
 flats_more [] (f ∷ flats) w flat a is = absurd a
 flats_more (v ∷ ws) [] w flat a is = absurd a
 
-pub flats_set : (ws : List MarkedWord) (flats : List Flat) (i : ℕ) (w : MarkedWord) (flat : Flat) → AreFlatsOf ws flats → IsFlatOf w flat → AreFlatsOf (slice_set ws i w) (slice_set flats i flat)
+pub flats_set : (ws : List MarkedWord) (flats : List Flat) (i : ℕ) (w : MarkedWord) (flat : Flat) → AreFlatsOf ws flats → IsMarkedFlat w flat → AreFlatsOf (slice_set ws i w) (slice_set flats i flat)
 flats_set [] [] i w flat a is = tt
 flats_set (v ∷ ws) (f ∷ flats) zero w flat a is = (is, a.1)
 flats_set (v ∷ ws) (f ∷ flats) (suc i) w flat a is = (a.0, flats_set ws flats i w flat a.1 is)

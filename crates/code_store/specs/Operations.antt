@@ -11,7 +11,7 @@ use Rattle.rv_word.specs.declared.outcome.Cause.{Cause}
 use Rattle.rv_word.specs.declared.outcome.Cause.TheVariants.{Access}
 use Rattle.rv_word.specs.declared.outcome.Next.{Next}
 use Rattle.rv_word.specs.declared.outcome.Next.TheVariants as ways
-use Rattle.rv_exec.specs.Flat.{instr_of}
+use Rattle.rv_exec.specs.Flat.{instr_of, CanRun, IsFlatOf}
 use Rattle.tramp_spec.specs.Marks.{is_jump}
 use Rattle.tramp_spec.specs.Banks.{bank_at, bank_len, is_in_bank}
 use Rattle.tramp_spec.specs.Steps.{Bench, Stood, stand, step_decoded, with_doubleword, with_value}
@@ -63,7 +63,7 @@ bank_stored v at pc x = if is_in_bank bank_len at then Ok (stand (next pc) (with
 
 -- what the instruction does under a mark that isn't the program's and reaches n doublewords
 abbrev pub Does : ℕ → Option Instr → Operation → Type 0
-Does n i (Run flat) = (instr_of flat ≡ i) × IfSome i HasWord × RunsAlike n i
+Does n i (Run flat j) = IsFlatOf i flat × (j ≡ i) × IfSome i HasWord × RunsAlike n i
 Does n i (LoadBank rd rs1 offset) =
     (rd < 32) × (rs1 < 32)
     × ((ticks pc : ℕ) (x : Bench) → step_decoded n i ticks pc x ≡ bank_loaded rd (wrap (reg x.regs rs1 + offset)) ticks pc x)
@@ -77,7 +77,7 @@ Does n i (Stop cause) = (ticks pc : ℕ) (x : Bench) → step_decoded n i ticks 
 
 -- the operation of a word of the program
 abbrev pub Executes : Option Instr → Operation → Type 0
-Executes i (Run flat) = (instr_of flat ≡ i) × IfSome i HasWord
+Executes i (Run flat j) = IsFlatOf i flat × (j ≡ i) × IfSome i HasWord
 Executes i (LoadBank rd rs1 offset) = ⊥
 Executes i (StoreBank rs1 rs2 offset) = ⊥
 Executes i (NoAccess rs1 offset) = ⊥
@@ -95,27 +95,27 @@ IsOperationOf w o = IsOperationBy w.mark (decode_of w.word) o
 
 -- ---- flats
 
--- in the list of flats a word of the program does what it does, and another is no instruction
+-- in the list of flats a word of the program has its flat, and another is no instruction
 abbrev pub IsFlatBy : Mark → Option Instr → Flat → Type 0
-IsFlatBy Own i flat = (instr_of flat ≡ i) × IfSome i HasWord
-IsFlatBy Enter i flat = instr_of flat ≡ None
-IsFlatBy Tool i flat = instr_of flat ≡ None
-IsFlatBy Leave i flat = instr_of flat ≡ None
+IsFlatBy Own i flat = IsFlatOf i flat
+IsFlatBy Enter i flat = (instr_of flat ≡ None) × CanRun flat
+IsFlatBy Tool i flat = (instr_of flat ≡ None) × CanRun flat
+IsFlatBy Leave i flat = (instr_of flat ≡ None) × CanRun flat
 
-abbrev pub IsFlatOf : MarkedWord → Flat → Type 0
-IsFlatOf w flat = IsFlatBy w.mark (decode_of w.word) flat
+abbrev pub IsMarkedFlat : MarkedWord → Flat → Type 0
+IsMarkedFlat w flat = IsFlatBy w.mark (decode_of w.word) flat
 
 -- there is a flat exactly where a word is fetched, and it is that word's
 abbrev pub IsFlatAt : Option MarkedWord → Option Flat → Type 0
 IsFlatAt None None = Unit {0}
 IsFlatAt None (Some flat) = ⊥
 IsFlatAt (Some w) None = ⊥
-IsFlatAt (Some w) (Some flat) = IsFlatOf w flat
+IsFlatAt (Some w) (Some flat) = IsMarkedFlat w flat
 
 -- word by word
 abbrev pub AreFlatsOf : List MarkedWord → List Flat → Type 0
 AreFlatsOf [] [] = Unit {0}
-AreFlatsOf (w ∷ ws) (flat ∷ flats) = IsFlatOf w flat × AreFlatsOf ws flats
+AreFlatsOf (w ∷ ws) (flat ∷ flats) = IsMarkedFlat w flat × AreFlatsOf ws flats
 AreFlatsOf [] (flat ∷ flats) = ⊥
 AreFlatsOf (w ∷ ws) [] = ⊥
 

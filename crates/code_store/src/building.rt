@@ -51,7 +51,7 @@ pub fn own_slots(alloc: Global, words: &[u32]) -> Result<Vec<Slot>, NoMemory>
     Ok(slots)
 }
 
-/// What the words of these slots do.
+/// The flats of the words of these slots.
 ///
 /// # Errors
 ///

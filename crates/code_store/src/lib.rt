@@ -12,5 +12,4 @@ mod word_use;
 
 pub use operation::Operation;
 pub use slot::Slot;
-pub use span::flat_at;
 pub use store::Store;

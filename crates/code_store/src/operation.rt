@@ -12,8 +12,9 @@ use tramp_spec::{Mark, MarkedWord};
 /// What a word does under its mark, as one variant.
 #[derive(Clone, Copy, Drop)]
 pub enum Operation {
-    /// What the word does in the program. So does each word of the program; any other where it computes, branches or jumps.
-    Run(Flat),
+    /// What the word does in the program: its flat, and its instruction for where the flat does nothing. So does each word of the
+    /// program; any other where it computes, branches or jumps.
+    Run { flat: Flat, instr: Option<Instr> },
     /// A word of the tool loads a doubleword of the bank.
     LoadBank { rd: u32, rs1: u32, offset: u64 },
     /// A word of the tool stores to a doubleword of the bank.
@@ -113,9 +114,10 @@ impl Operation {
         ensures { IsOperationOf marked result }
     {
         let instr = decode(marked.word);
+        let flat = flattened(instr);
         match marked.mark {
-            Mark::Own => Operation::Run(flattened(instr)),
-            _ if computes(instr) => Operation::Run(flattened(instr)),
+            Mark::Own => Operation::Run { flat, instr },
+            _ if computes(instr) => Operation::Run { flat, instr },
             Mark::Tool => other(true, instr),
             Mark::Enter | Mark::Leave => other(false, instr),
         }

@@ -2,7 +2,7 @@
 
 ghost use Rattle.std.specs.Prelude.{◌≡◌};
 ghost use Rattle.tramp_spec.specs.Marks.{inside_after, is_jump, is_own};
-ghost use Rattle.code_store.specs.Operations.{IsFlatOf, IsOperationOf};
+ghost use Rattle.code_store.specs.Operations.{IsMarkedFlat, IsOperationOf};
 ghost use Rattle.code_store.specs.Stores.{marked};
 
 use crate::operation::Operation;
@@ -99,13 +99,13 @@ impl Slot {
         &self.operation
     }
 
-    /// What the word does, if it is one of the program, and else no instruction.
+    /// The flat of the word, if it is one of the program, and else `Rest`.
     pub(crate) fn flat(&self) -> Flat
-        ensures { IsFlatOf self.now result }
+        ensures { IsMarkedFlat self.now result }
     {
         match self.operation {
-            Operation::Run(flat) if self.is_tick() => flat,
-            _ => Flat::Illegal,
+            Operation::Run { flat, .. } if self.is_tick() => flat,
+            _ => Flat::Rest,
         }
     }
 

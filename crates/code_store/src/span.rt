@@ -6,7 +6,6 @@ ghost use Rattle.tramp_spec.specs.Codes.{is_word_of};
 ghost use Rattle.code_store.specs.Views.{at_place};
 
 use crate::slot::Slot;
-use rv_exec::Flat;
 
 /// The number of the word at an address in a run of words that begins at `first`, if the run has one there, and else a number that
 /// is too great. The distance is rotated by two bits: one that is below 0 or no multiple of 4 becomes great, so that one test finds
@@ -40,19 +39,5 @@ impl Span {
         } else {
             None
         }
-    }
-}
-
-/// The flat of the word at an address, if one is there. The first is that of the word at `first`.
-#[inline(always)]
-pub fn flat_at(first: u64, flats: &[Flat], at: u64) -> Option<&Flat>
-    requires ends { first + 4 * length flats.now < 2 ^ 64 }
-    ensures { option_copied result ≡ at_place first flats.now at }
-{
-    let i = place_of(first, at);
-    if i < flats.len() as u64 {
-        Some(&flats[i as usize])
-    } else {
-        None
     }
 }

@@ -30,7 +30,7 @@ pub struct Store {
     /// The program's words, which stay.
     words: Vec<u32>,
     text: Span,
-    /// What the text's words do, apart from their slots, so that the program's words run one after another by these alone.
+    /// The flats of the text's words, apart from their slots, so that the program's words run one after another by these alone.
     flats: Vec<Flat>,
     /// The words of the tool text up to the last that was put. Behind them is room for the others.
     tool: Span,
@@ -158,8 +158,8 @@ impl Store {
         }
     }
 
-    /// The first address of the text, and what each of its words does that a hart outside fetches: for another word than one of the
-    /// program, no instruction.
+    /// The first address of the text, and the flat of each of its words that a hart outside fetches: for another word than one of the
+    /// program, `Rest`.
     #[inline(always)]
     pub fn flats(&self) -> (u64, &[Flat])
         ensures flats { (pc : ℕ) → IsFlatAt (fetched_at self.now.program self.now.code pc false) (at_place result.0 result.1.now pc) }

@@ -3,3 +3,4 @@ pub mod Writes
 pub mod High
 pub mod Runs
 pub mod Free
+pub mod Flats

@@ -1,17 +1,9 @@
--- For proofs alone: the variants of atomic accesses, and what one leaves.
+-- For proofs alone: what an atomic access leaves.
 use Rattle.std.specs.Prelude.{ℕ, List, Result, Ok, Err}
 use Rattle.rv_word.specs.Exec.{Prog, Done, next}
 use Rattle.rv_word.specs.Registers.{with_reg}
 use Rattle.rv_word.specs.declared.outcome.Cause.{Cause}
 use Rattle.rv_word.specs.declared.outcome.Next.TheVariants.{Go, Stop}
-use Rattle.rv_exec.specs.declared.flat.Flat.{Flat}
-use Rattle.rv_exec.specs.declared.flat.Flat.TheVariants as flat
-
-abbrev pub IsAtomicAccess : Flat → Type 0
-IsAtomicAccess (flat.Lr width rd rs1 order) = Unit {0}
-IsAtomicAccess (flat.Sc width rd rs1 rs2 order) = Unit {0}
-IsAtomicAccess (flat.Amo op width rd rs1 rs2 order) = Unit {0}
-IsAtomicAccess f = ⊥
 
 -- what a word at pc leaves that puts a value into rd, or stops
 abbrev pub answering : Result ℕ Cause → ℕ → ℕ → List ℕ → Prog → Done

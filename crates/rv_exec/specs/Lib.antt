@@ -3,6 +3,7 @@ pub mod Run
 pub mod Gives
 pub mod Unreserved
 pub mod Flat
+pub mod Pcs
 pub mod Codes
 pub mod AtomicAccesses
 pub mod Shared

@@ -1,23 +1,22 @@
 //! Atomic accesses.
 
-ghost use Rattle.std.specs.Prelude.{◌≡◌, ◌<◌, ◌%◌, ◌^◌, Ok, length, List, ℕ, Option, IfOk, IfErr, IfSome, None};
-ghost use Rattle.rv_word.specs.Exec.{Outcome, Stops, Prog, perform, done_of_outcome, prog_of, stop_of, atomic, exec_decoded};
+ghost use Rattle.std.specs.Prelude.{◌≡◌, ◌<◌, ◌%◌, ◌^◌, Ok, length, List, ℕ, Option, IfOk, IfErr, None};
+ghost use Rattle.rv_word.specs.Exec.{Outcome, Stops, Prog, perform, done_of_outcome, prog_of, stop_of, atomic, exec_instr};
 ghost use Rattle.rv_word.specs.Memory.{load};
 ghost use Rattle.rv_word.specs.Values.{atomic_len, answered, less_signed, less_unsigned, left_by};
+ghost use Rattle.rv_word.specs.Forms.{IsAtomic};
 ghost use Rattle.rv_word.specs.Words.{HasWord};
 ghost use Rattle.rv_word.specs.declared.action.Action.TheVariants.{LoadReserved, StoreConditional, AtomicAccess};
-ghost use Rattle.rv_exec.specs.AtomicAccesses.{IsAtomicAccess, answering};
-ghost use Rattle.rv_exec.specs.Flat.{instr_of};
+ghost use Rattle.rv_exec.specs.AtomicAccesses.{answering};
 ghost use Rattle.rv_exec.specs.Gives.{IsExecuted, state_from, next_after};
 
-use crate::flat::Flat;
 use crate::outcomes::{cause_of, next_pc};
 use crate::regs::Regs;
 use crate::reservations::Reservations;
 use crate::values::low_word_of;
 use pn_types::HartNo;
 use rv_mem::Mem;
-use rv_word::{AmoOp, AtomicWidth, Cause};
+use rv_word::{AmoOp, AtomicWidth, Cause, Instr};
 
 fn atomic_width(width: AtomicWidth) -> u32
     ensures { result ≡ atomic_len width }
@@ -207,7 +206,7 @@ fn put_answer(
 #[inline(never)]
 #[tactic(auto, unfolding(rv_word::specs::Exec::action))]
 pub fn access(
-    flat: &Flat,
+    instr: Instr,
     hart: HartNo,
     pc: u64,
     stop: &mut Option<Cause>,
@@ -215,25 +214,38 @@ pub fn access(
     mem: &mut Mem,
     resv: &mut Reservations,
 ) -> u64
-    requires form { IsAtomicAccess flat.now }
-    requires word { IfSome (instr_of flat.now) HasWord }
+    requires form { IsAtomic instr }
+    requires word { HasWord instr }
     requires hart { hart < length resv.old }
     requires stop { stop.old ≡ None }
     ensures harts { length resv.new ≡ length resv.old }
-    ensures state { (out : List ℕ) → IsExecuted (exec_decoded (instr_of flat.now) pc hart)
+    ensures state { (out : List ℕ) → IsExecuted (exec_instr instr pc hart)
         (state_from regs.old mem.old resv.old out) (next_after stop.new result) (state_from regs.new mem.new resv.new out) }
 {
-    match *flat {
-        Flat::Lr(width, rd, rs1, _) => {
+    match instr {
+        Instr::Lr { width, rd, rs1, .. } => {
             let answer = load_reserved(width, hart, regs.get(rs1), mem, resv);
             put_answer(answer, rd, pc, stop, regs)
         }
-        Flat::Sc(width, rd, rs1, rs2, _) => {
+        Instr::Sc {
+            width,
+            rd,
+            rs1,
+            rs2,
+            ..
+        } => {
             let (at, value) = (regs.get(rs1), regs.get(rs2));
             let answer = store_conditional(width, hart, at, value, mem, resv);
             put_answer(answer, rd, pc, stop, regs)
         }
-        Flat::Amo(op, width, rd, rs1, rs2, _) => {
+        Instr::Amo {
+            op,
+            width,
+            rd,
+            rs1,
+            rs2,
+            ..
+        } => {
             let (at, value) = (regs.get(rs1), regs.get(rs2));
             let answer = amo(op, width, hart, at, value, mem, resv);
             put_answer(answer, rd, pc, stop, regs)

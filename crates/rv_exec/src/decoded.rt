@@ -5,18 +5,20 @@ ghost use Rattle.rv_word.specs.Exec.{exec_of};
 ghost use Rattle.rv_exec.specs.Gives.{IsExecuted, state_of, next_after};
 ghost use Rattle.rv_exec.specs.Shared.{prog_in};
 
+use crate::executing::run_or_execute;
 use crate::flat::{Flat, flattened};
 use crate::regs::Regs;
 use crate::running::Caller;
 use crate::shared::Shared;
 use pn_types::HartNo;
-use rv_word::{Cause, decode};
+use rv_word::{Cause, Instr, decode};
 use std::marker::Model;
 
 /// A word with its instruction, so that it is decoded once however often it is executed. Contracts see the word.
 #[derive(Drop)]
 pub struct Decoded {
     flat: Flat,
+    instr: Option<Instr>,
     word: u32,
 }
 
@@ -24,13 +26,13 @@ impl Model for Decoded {
     ghost use Rattle.std.specs.Prelude.{ℕ, ◌≡◌, IfSome};
     ghost use Rattle.rv_word.specs.Table.{decode_of};
     ghost use Rattle.rv_word.specs.Words.{HasWord};
-    ghost use Rattle.rv_exec.specs.Flat.{instr_of};
+    ghost use Rattle.rv_exec.specs.Flat.{IsFlatOf};
 
     ghost Value = { ℕ };
 
     ghost view = { λ d. d.word };
 
-    ghost invariant = { λ d. (instr_of d.flat ≡ decode_of d.word) × IfSome (instr_of d.flat) HasWord };
+    ghost invariant = { λ d. (d.instr ≡ decode_of d.word) × IfSome d.instr HasWord × IsFlatOf d.instr d.flat };
 }
 
 impl Caller for Decoded {}
@@ -40,10 +42,9 @@ impl Decoded {
     pub fn new(word: u32) -> Decoded
         ensures { result ≡ word }
     {
-        Decoded {
-            flat: flattened(decode(word)),
-            word,
-        }
+        let instr = decode(word);
+        let flat = flattened(instr);
+        Decoded { flat, instr, word }
     }
 
     /// The word.
@@ -71,6 +72,6 @@ impl Decoded {
         ensures state { IsExecuted (exec_of self.now pc.old hart)
             (state_of regs.old (prog_in shared.old)) (next_after stop.new pc.new) (state_of regs.new (prog_in shared.new)) }
     {
-        self.flat.run::<Decoded>(hart, pc, stop, regs, shared)
+        run_or_execute::<Decoded>(&self.flat, self.instr, hart, pc, stop, regs, shared)
     }
 }

@@ -1,63 +1,63 @@
-//! Instructions with one variant for each operation, so that one look at the variant tells what to do.
+//! What words do, with one variant for each operation, so that one look at the variant tells what to do.
 
-ghost use Rattle.std.specs.Prelude.{◌≡◌, Some};
+ghost use Rattle.std.specs.Prelude.{◌≡◌, ◌≤◌, ◌<◌, false, Some, IfSome};
+ghost use Rattle.rv_word.specs.Words.{HasWord};
 ghost use Rattle.rv_word.specs.declared.instr.Instr.TheVariants.{Branch, Load, Store, OpImm, ShiftImm, ShiftImm32, Op, Op32};
-ghost use Rattle.rv_word.specs.Forms.{IsAtomic};
-ghost use Rattle.rv_exec.specs.Flat.{instr_of};
+ghost use Rattle.rv_exec.specs.Flat.{IsFlatOf, PutsResult, instr_of, is_idle, offset_of, wide};
 
-use rv_word::{
-    AmoOp, AtomicWidth, BranchOp, ImmOp, Instr, LoadOp, RegOp, RegOp32, ShiftOp, StoreOp,
-};
+use crate::values::widened;
+use rv_word::{BranchOp, ImmOp, Instr, LoadOp, RegOp, RegOp32, ShiftOp, StoreOp};
 
-/// The register that takes the result.
-pub type Rd = u32;
+/// The register that takes the result: x1 to x31.
+pub type Rd = u8;
 
 /// The register of the first operand.
-pub type Rs1 = u32;
+pub type Rs1 = u8;
 
 /// The register of the second operand.
-pub type Rs2 = u32;
+pub type Rs2 = u8;
 
-/// The 64-bit number that is added or compared.
-pub type Immediate = u64;
+/// The number that is added or compared, with its sign.
+pub type Immediate = i32;
 
-/// The 64-bit number that is added to the address or the pc.
-pub type Offset = u64;
+/// How many words further on the target of a jump is, with its sign.
+pub type Words = i32;
 
 /// By how many bits a shift shifts.
-pub type Amount = u32;
+pub type Amount = u8;
 
-/// The highest twelve bits of a fence.
-pub type High = u32;
-
-/// The bits aq and rl.
-pub type Order = u32;
-
-/// An instruction by its operation, or `Illegal` for a word that is none.
+/// What a word does by which a hart goes on, in 8 bytes. It is `Rest` for any other word, also for an instruction whose numbers don't
+/// fit here.
 #[derive(Clone, Copy, Drop)]
 pub enum Flat {
-    Illegal,
+    Rest,
+    /// Nothing but that the hart goes on.
+    Nop,
     Lui(Rd, Immediate),
     Auipc(Rd, Immediate),
-    Jal(Rd, Offset),
-    Jalr(Rd, Rs1, Offset),
-    Beq(Rs1, Rs2, Offset),
-    Bne(Rs1, Rs2, Offset),
-    Blt(Rs1, Rs2, Offset),
-    Bge(Rs1, Rs2, Offset),
-    Bltu(Rs1, Rs2, Offset),
-    Bgeu(Rs1, Rs2, Offset),
-    Lb(Rd, Rs1, Offset),
-    Lh(Rd, Rs1, Offset),
-    Lw(Rd, Rs1, Offset),
-    Ld(Rd, Rs1, Offset),
-    Lbu(Rd, Rs1, Offset),
-    Lhu(Rd, Rs1, Offset),
-    Lwu(Rd, Rs1, Offset),
-    Sb(Rs1, Rs2, Offset),
-    Sh(Rs1, Rs2, Offset),
-    Sw(Rs1, Rs2, Offset),
-    Sd(Rs1, Rs2, Offset),
+    Jal(Rd, Words),
+    /// A jump that keeps no address.
+    J(Words),
+    Jalr(Rd, Rs1, Immediate),
+    /// A jump to a register's address that keeps no address.
+    Jr(Rs1, Immediate),
+    Beq(Rs1, Rs2, Words),
+    Bne(Rs1, Rs2, Words),
+    Blt(Rs1, Rs2, Words),
+    Bge(Rs1, Rs2, Words),
+    Bltu(Rs1, Rs2, Words),
+    Bgeu(Rs1, Rs2, Words),
+    Lb(Rd, Rs1, Immediate),
+    Lh(Rd, Rs1, Immediate),
+    Lw(Rd, Rs1, Immediate),
+    Ld(Rd, Rs1, Immediate),
+    Lbu(Rd, Rs1, Immediate),
+    Lhu(Rd, Rs1, Immediate),
+    Lwu(Rd, Rs1, Immediate),
+    Sb(Rs1, Rs2, Immediate),
+    Sh(Rs1, Rs2, Immediate),
+    Sw(Rs1, Rs2, Immediate),
+    Sd(Rs1, Rs2, Immediate),
     Addi(Rd, Rs1, Immediate),
     Slti(Rd, Rs1, Immediate),
     Sltiu(Rd, Rs1, Immediate),
@@ -99,54 +99,78 @@ pub enum Flat {
     Divuw(Rd, Rs1, Rs2),
     Remw(Rd, Rs1, Rs2),
     Remuw(Rd, Rs1, Rs2),
-    Fence(Rd, Rs1, High),
-    Ecall,
-    Ebreak,
-    Lr(AtomicWidth, Rd, Rs1, Order),
-    Sc(AtomicWidth, Rd, Rs1, Rs2, Order),
-    Amo(AmoOp, AtomicWidth, Rd, Rs1, Rs2, Order),
 }
 
-fn flat_branch(op: BranchOp, rs1: u32, rs2: u32, offset: u64) -> Flat
-    ensures { instr_of result ≡ Some (Branch op rs1 rs2 offset) }
+/// The immediate that is this 64-bit number, if 32 bits have it.
+fn narrow(number: u64) -> Option<i32>
+    ensures { IfSome result (λ n. wide n ≡ number) }
 {
-    match op {
-        BranchOp::Beq => Flat::Beq(rs1, rs2, offset),
-        BranchOp::Bne => Flat::Bne(rs1, rs2, offset),
-        BranchOp::Blt => Flat::Blt(rs1, rs2, offset),
-        BranchOp::Bge => Flat::Bge(rs1, rs2, offset),
-        BranchOp::Bltu => Flat::Bltu(rs1, rs2, offset),
-        BranchOp::Bgeu => Flat::Bgeu(rs1, rs2, offset),
+    let low = ((number % 0x1_0000_0000) as u32).cast_signed();
+    if widened(low) == number {
+        Some(low)
+    } else {
+        None
     }
 }
 
-fn flat_load(op: LoadOp, rd: u32, rs1: u32, offset: u64) -> Flat
-    ensures { instr_of result ≡ Some (Load op rd rs1 offset) }
+/// How many words an offset is, if it is a whole number of them that 32 bits have.
+fn words_in(offset: u64) -> Option<i32>
+    ensures { IfSome result (λ words. offset_of words ≡ offset) }
 {
-    match op {
-        LoadOp::Lb => Flat::Lb(rd, rs1, offset),
-        LoadOp::Lh => Flat::Lh(rd, rs1, offset),
-        LoadOp::Lw => Flat::Lw(rd, rs1, offset),
-        LoadOp::Ld => Flat::Ld(rd, rs1, offset),
-        LoadOp::Lbu => Flat::Lbu(rd, rs1, offset),
-        LoadOp::Lhu => Flat::Lhu(rd, rs1, offset),
-        LoadOp::Lwu => Flat::Lwu(rd, rs1, offset),
+    let words = ((offset / 4 % 0x1_0000_0000) as u32).cast_signed();
+    if widened(words).wrapping_mul(4) == offset {
+        Some(words)
+    } else {
+        None
     }
 }
 
-fn flat_store(op: StoreOp, rs1: u32, rs2: u32, offset: u64) -> Flat
-    ensures { instr_of result ≡ Some (Store op rs1 rs2 offset) }
+fn flat_branch(op: BranchOp, rs1: u8, rs2: u8, words: i32) -> Flat
+    ensures instr { instr_of result ≡ Some (Branch op rs1 rs2 (offset_of words)) }
+    ensures puts { PutsResult result }
 {
     match op {
-        StoreOp::Sb => Flat::Sb(rs1, rs2, offset),
-        StoreOp::Sh => Flat::Sh(rs1, rs2, offset),
-        StoreOp::Sw => Flat::Sw(rs1, rs2, offset),
-        StoreOp::Sd => Flat::Sd(rs1, rs2, offset),
+        BranchOp::Beq => Flat::Beq(rs1, rs2, words),
+        BranchOp::Bne => Flat::Bne(rs1, rs2, words),
+        BranchOp::Blt => Flat::Blt(rs1, rs2, words),
+        BranchOp::Bge => Flat::Bge(rs1, rs2, words),
+        BranchOp::Bltu => Flat::Bltu(rs1, rs2, words),
+        BranchOp::Bgeu => Flat::Bgeu(rs1, rs2, words),
     }
 }
 
-fn flat_imm(op: ImmOp, rd: u32, rs1: u32, imm: u64) -> Flat
-    ensures { instr_of result ≡ Some (OpImm op rd rs1 imm) }
+fn flat_load(op: LoadOp, rd: u8, rs1: u8, imm: i32) -> Flat
+    requires { 1 ≤ rd }
+    ensures instr { instr_of result ≡ Some (Load op rd rs1 (wide imm)) }
+    ensures puts { PutsResult result }
+{
+    match op {
+        LoadOp::Lb => Flat::Lb(rd, rs1, imm),
+        LoadOp::Lh => Flat::Lh(rd, rs1, imm),
+        LoadOp::Lw => Flat::Lw(rd, rs1, imm),
+        LoadOp::Ld => Flat::Ld(rd, rs1, imm),
+        LoadOp::Lbu => Flat::Lbu(rd, rs1, imm),
+        LoadOp::Lhu => Flat::Lhu(rd, rs1, imm),
+        LoadOp::Lwu => Flat::Lwu(rd, rs1, imm),
+    }
+}
+
+fn flat_store(op: StoreOp, rs1: u8, rs2: u8, imm: i32) -> Flat
+    ensures instr { instr_of result ≡ Some (Store op rs1 rs2 (wide imm)) }
+    ensures puts { PutsResult result }
+{
+    match op {
+        StoreOp::Sb => Flat::Sb(rs1, rs2, imm),
+        StoreOp::Sh => Flat::Sh(rs1, rs2, imm),
+        StoreOp::Sw => Flat::Sw(rs1, rs2, imm),
+        StoreOp::Sd => Flat::Sd(rs1, rs2, imm),
+    }
+}
+
+fn flat_imm(op: ImmOp, rd: u8, rs1: u8, imm: i32) -> Flat
+    requires { 1 ≤ rd }
+    ensures instr { instr_of result ≡ Some (OpImm op rd rs1 (wide imm)) }
+    ensures puts { PutsResult result }
 {
     match op {
         ImmOp::Addi => Flat::Addi(rd, rs1, imm),
@@ -158,8 +182,10 @@ fn flat_imm(op: ImmOp, rd: u32, rs1: u32, imm: u64) -> Flat
     }
 }
 
-fn flat_shift(op: ShiftOp, rd: u32, rs1: u32, by: u32) -> Flat
-    ensures { instr_of result ≡ Some (ShiftImm op rd rs1 by) }
+fn flat_shift(op: ShiftOp, rd: u8, rs1: u8, by: u8) -> Flat
+    requires { 1 ≤ rd }
+    ensures instr { instr_of result ≡ Some (ShiftImm op rd rs1 by) }
+    ensures puts { PutsResult result }
 {
     match op {
         ShiftOp::Sll => Flat::Slli(rd, rs1, by),
@@ -168,8 +194,10 @@ fn flat_shift(op: ShiftOp, rd: u32, rs1: u32, by: u32) -> Flat
     }
 }
 
-fn flat_shift_32(op: ShiftOp, rd: u32, rs1: u32, by: u32) -> Flat
-    ensures { instr_of result ≡ Some (ShiftImm32 op rd rs1 by) }
+fn flat_shift_32(op: ShiftOp, rd: u8, rs1: u8, by: u8) -> Flat
+    requires { 1 ≤ rd }
+    ensures instr { instr_of result ≡ Some (ShiftImm32 op rd rs1 by) }
+    ensures puts { PutsResult result }
 {
     match op {
         ShiftOp::Sll => Flat::Slliw(rd, rs1, by),
@@ -178,8 +206,10 @@ fn flat_shift_32(op: ShiftOp, rd: u32, rs1: u32, by: u32) -> Flat
     }
 }
 
-fn flat_op(op: RegOp, rd: u32, rs1: u32, rs2: u32) -> Flat
-    ensures { instr_of result ≡ Some (Op op rd rs1 rs2) }
+fn flat_op(op: RegOp, rd: u8, rs1: u8, rs2: u8) -> Flat
+    requires { 1 ≤ rd }
+    ensures instr { instr_of result ≡ Some (Op op rd rs1 rs2) }
+    ensures puts { PutsResult result }
 {
     match op {
         RegOp::Add => Flat::Add(rd, rs1, rs2),
@@ -203,8 +233,10 @@ fn flat_op(op: RegOp, rd: u32, rs1: u32, rs2: u32) -> Flat
     }
 }
 
-fn flat_op_32(op: RegOp32, rd: u32, rs1: u32, rs2: u32) -> Flat
-    ensures { instr_of result ≡ Some (Op32 op rd rs1 rs2) }
+fn flat_op_32(op: RegOp32, rd: u8, rs1: u8, rs2: u8) -> Flat
+    requires { 1 ≤ rd }
+    ensures instr { instr_of result ≡ Some (Op32 op rd rs1 rs2) }
+    ensures puts { PutsResult result }
 {
     match op {
         RegOp32::Addw => Flat::Addw(rd, rs1, rs2),
@@ -220,81 +252,78 @@ fn flat_op_32(op: RegOp32, rd: u32, rs1: u32, rs2: u32) -> Flat
     }
 }
 
-fn flat_atomic(instr: Instr) -> Flat
-    requires { IsAtomic instr }
-    ensures { instr_of result ≡ Some instr }
+/// The flat of an instruction that does more than that the hart goes on, if there is one but `Rest`.
+fn flat_of(instr: Instr) -> Option<Flat>
+    requires word { HasWord instr }
+    requires busy { is_idle instr ≡ false }
+    ensures { IfSome result (λ f. (instr_of f ≡ Some instr) × PutsResult f) }
 {
-    match instr {
-        Instr::Lr {
-            width,
-            rd,
-            rs1,
-            order,
-        } => Flat::Lr(width, rd, rs1, order),
-        Instr::Sc {
-            width,
-            rd,
-            rs1,
-            rs2,
-            order,
-        } => Flat::Sc(width, rd, rs1, rs2, order),
-        Instr::Amo {
-            op,
-            width,
-            rd,
-            rs1,
-            rs2,
-            order,
-        } => Flat::Amo(op, width, rd, rs1, rs2, order),
-        _ => unreachable!(),
-    }
-}
-
-fn flat_of(instr: Instr) -> Flat
-    ensures { instr_of result ≡ Some instr }
-{
-    match instr {
-        Instr::Lui { rd, imm } => Flat::Lui(rd, imm),
-        Instr::Auipc { rd, imm } => Flat::Auipc(rd, imm),
-        Instr::Jal { rd, offset } => Flat::Jal(rd, offset),
-        Instr::Jalr { rd, rs1, offset } => Flat::Jalr(rd, rs1, offset),
+    let flat = match instr {
+        Instr::Lui { rd, imm } => Flat::Lui(rd as u8, narrow(imm)?),
+        Instr::Auipc { rd, imm } => Flat::Auipc(rd as u8, narrow(imm)?),
+        Instr::Jal { rd, offset } if rd == 0 => Flat::J(words_in(offset)?),
+        Instr::Jal { rd, offset } => Flat::Jal(rd as u8, words_in(offset)?),
+        Instr::Jalr { rd, rs1, offset } if rd == 0 => Flat::Jr(rs1 as u8, narrow(offset)?),
+        Instr::Jalr { rd, rs1, offset } => Flat::Jalr(rd as u8, rs1 as u8, narrow(offset)?),
         Instr::Branch {
             op,
             rs1,
             rs2,
             offset,
-        } => flat_branch(op, rs1, rs2, offset),
+        } => flat_branch(op, rs1 as u8, rs2 as u8, words_in(offset)?),
         Instr::Load {
             op,
             rd,
             rs1,
             offset,
-        } => flat_load(op, rd, rs1, offset),
+        } if rd != 0 => flat_load(op, rd as u8, rs1 as u8, narrow(offset)?),
         Instr::Store {
             op,
             rs1,
             rs2,
             offset,
-        } => flat_store(op, rs1, rs2, offset),
-        Instr::OpImm { op, rd, rs1, imm } => flat_imm(op, rd, rs1, imm),
-        Instr::ShiftImm { op, rd, rs1, by } => flat_shift(op, rd, rs1, by),
-        Instr::Addiw { rd, rs1, imm } => Flat::Addiw(rd, rs1, imm),
-        Instr::ShiftImm32 { op, rd, rs1, by } => flat_shift_32(op, rd, rs1, by),
-        Instr::Op { op, rd, rs1, rs2 } => flat_op(op, rd, rs1, rs2),
-        Instr::Op32 { op, rd, rs1, rs2 } => flat_op_32(op, rd, rs1, rs2),
-        Instr::Fence { rd, rs1, high } => Flat::Fence(rd, rs1, high),
-        Instr::Ecall => Flat::Ecall,
-        Instr::Ebreak => Flat::Ebreak,
-        Instr::Lr { .. } | Instr::Sc { .. } | Instr::Amo { .. } => flat_atomic(instr),
+        } => flat_store(op, rs1 as u8, rs2 as u8, narrow(offset)?),
+        Instr::OpImm { op, rd, rs1, imm } => flat_imm(op, rd as u8, rs1 as u8, narrow(imm)?),
+        Instr::ShiftImm { op, rd, rs1, by } => flat_shift(op, rd as u8, rs1 as u8, by as u8),
+        Instr::Addiw { rd, rs1, imm } => Flat::Addiw(rd as u8, rs1 as u8, narrow(imm)?),
+        Instr::ShiftImm32 { op, rd, rs1, by } => flat_shift_32(op, rd as u8, rs1 as u8, by as u8),
+        Instr::Op { op, rd, rs1, rs2 } => flat_op(op, rd as u8, rs1 as u8, rs2 as u8),
+        Instr::Op32 { op, rd, rs1, rs2 } => flat_op_32(op, rd as u8, rs1 as u8, rs2 as u8),
+        _ => return None,
+    };
+    Some(flat)
+}
+
+/// Whether an instruction does nothing but that the hart goes on: a fence, or what computes for x0.
+fn is_idle(instr: Instr) -> bool
+    ensures { result ≡ is_idle instr }
+{
+    match instr {
+        Instr::Lui { rd, .. }
+        | Instr::Auipc { rd, .. }
+        | Instr::OpImm { rd, .. }
+        | Instr::ShiftImm { rd, .. }
+        | Instr::Addiw { rd, .. }
+        | Instr::ShiftImm32 { rd, .. }
+        | Instr::Op { rd, .. }
+        | Instr::Op32 { rd, .. } => rd == 0,
+        Instr::Fence { .. } => true,
+        _ => false,
     }
 }
 
-/// The instruction by its operation.
+/// The flat of an instruction, which is `Rest` where there is none.
+#[tactic(auto, using(crate::proofs::Flats::idle, crate::proofs::Flats::stands))]
 pub fn flattened(instr: Option<Instr>) -> Flat
-    ensures { instr_of result ≡ instr }
+    requires { IfSome instr HasWord }
+    ensures { IsFlatOf instr result }
 {
     match instr {
-        Some(instr) => flat_of(instr),
-        None => Flat::Illegal,
+        Some(instr) if is_idle(instr) => Flat::Nop,
+        Some(instr) => match flat_of(instr) {
+            Some(flat) => flat,
+            None => Flat::Rest,
+        },
+        None => Flat::Rest,
     }
 }

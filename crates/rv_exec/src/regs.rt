@@ -1,6 +1,6 @@
 //! The registers of a hart.
 
-ghost use Rattle.std.specs.Prelude.{◌≡◌, ◌<◌, replicate};
+ghost use Rattle.std.specs.Prelude.{◌≡◌, ◌<◌, ◌≤◌, replicate};
 ghost use Rattle.rv_word.specs.Registers.{reg, with_reg};
 ghost use Rattle.rv_mem.specs.Start.{heap_len, stack_len};
 ghost use Rattle.rv_exec.specs.Start.{start_regs};
@@ -59,6 +59,16 @@ impl Regs {
         if r != 0 {
             self.x[r as usize] = v;
         }
+    }
+
+    /// Puts a value into register r, which isn't x0.
+    #[inline(always)]
+    #[tactic(auto, unfolding(rv_word::specs::Registers::with_reg))]
+    pub(crate) fn put(&mut self, r: u32, v: u64)
+        requires { (1 ≤ r) × (r < 32) }
+        ensures { self.new ≡ with_reg self.old r v }
+    {
+        self.x[r as usize] = v;
     }
 }
 

@@ -1,130 +1,119 @@
-//! The execution of an instruction: a table with an arm for each operation. It is one match, so that one jump leads to the arm;
+//! What words do by which a hart goes on: a table with an arm for each operation. It is one match, so that one jump leads to the arm;
 //! what the arms do stands in other files.
 
-ghost use Rattle.std.specs.Prelude.{◌≡◌, ◌<◌, length, None, is_none, IfSome};
-ghost use Rattle.rv_word.specs.Exec.{exec_decoded};
-ghost use Rattle.rv_word.specs.Words.{HasWord};
-ghost use Rattle.rv_exec.specs.Flat.{instr_of};
-ghost use Rattle.rv_exec.specs.Gives.{IsExecuted, state_of, next_after};
+ghost use Rattle.std.specs.Prelude.{◌≡◌, ◌<◌, true, false, length};
+ghost use Rattle.rv_word.specs.Exec.{Goes, exec_decoded};
+ghost use Rattle.rv_exec.specs.Flat.{CanRun, instr_of};
+ghost use Rattle.rv_exec.specs.Pcs.{address_of};
 ghost use Rattle.rv_exec.specs.Shared.{prog_in};
 
-use crate::atomics::access;
-use crate::calling::call;
 use crate::flat::Flat;
-use crate::outcomes::next_pc;
+use crate::moves::{
+    address, branch, compute, go, go_to, immediate, jump, jump_to, load, operate, operate_32,
+    shift, shift_32, store,
+};
+use crate::pc::Pc;
 use crate::regs::Regs;
 use crate::shared::Shared;
-use crate::steps::{
-    branch, compute, immediate, jump, operate, operate_32, read, shift, shift_32, write,
-};
-use crate::values::{is_taken, low_word_of};
+use crate::values::{low_word_of, widened};
 use pn_types::HartNo;
-use rv_word::{BranchOp, Cause, ImmOp, LoadOp, RegOp, RegOp32, ShiftOp, StoreOp};
+use rv_word::{BranchOp, ImmOp, LoadOp, RegOp, RegOp32, ShiftOp, StoreOp};
 
-/// Who runs instructions. Each caller has a copy of [`Flat::run`] of its own, so that the compiler can put it into the caller's
-/// loop, as it does with what is called from one place alone.
+/// Who runs words. Each caller has a copy of [`Flat::run`] of its own, so that the compiler can put it into the caller's loop, as it
+/// does with what is called from one place alone.
 pub trait Caller {}
 
 impl Flat {
-    /// Executes the instruction at pc, by a hart that isn't stopped. It sets the next pc, or the cause for which the hart stops.
-    /// Returns whether the hart goes on. A stop changes nothing else, but that an SC clears the hart's reservation also where it
-    /// stops. It takes no memory.
+    /// Does what the word does at the pc, and returns true, if the hart goes on after it. Else it does nothing: so with `Rest`, and
+    /// where the word stops the hart. It takes no memory.
     #[inline(always)]
     #[tactic(auto, unfolding(rv_word::specs::Exec::action, rv_word::specs::Exec::perform))]
     pub fn run<C: Caller>(
         &self,
         hart: HartNo,
-        pc: &mut u64,
-        stop: &mut Option<Cause>,
+        pc: &mut Pc,
         regs: &mut Regs,
         shared: &mut Shared,
     ) -> bool
-        requires word { IfSome (instr_of self.now) HasWord }
+        requires can_run { CanRun self.now }
         requires hart { hart < length shared.old.resv }
-        requires stop { stop.old ≡ None }
-        ensures goes { result ≡ is_none stop.new }
-        ensures state { IsExecuted (exec_decoded (instr_of self.now) pc.old hart)
-            (state_of regs.old (prog_in shared.old)) (next_after stop.new pc.new) (state_of regs.new (prog_in shared.new)) }
+        ensures first { pc.new.first ≡ pc.old.first }
+        ensures harts { length shared.new.resv ≡ length shared.old.resv }
+        ensures goes { result ≡ true → exec_decoded (instr_of self.now) (address_of pc.old) hart regs.old (prog_in shared.old)
+            ≡ Goes (address_of pc.new) regs.new (prog_in shared.new) }
+        ensures stays { result ≡ false → (address_of pc.new ≡ address_of pc.old) × (regs.new ≡ regs.old)
+            × (prog_in shared.new ≡ prog_in shared.old) }
     {
         match *self {
-            Flat::Illegal => {
-                *stop = Some(Cause::Illegal);
-                false
+            Flat::Rest => false,
+            Flat::Nop => {
+                pc.step();
+                true
             }
-            Flat::Lui(rd, imm) => compute(rd, imm, pc, regs),
-            Flat::Auipc(rd, imm) => compute(rd, pc.wrapping_add(imm), pc, regs),
-            Flat::Jal(rd, offset) => jump(rd, pc.wrapping_add(offset), pc, stop, regs),
-            Flat::Jalr(rd, rs1, offset) => {
-                let target = regs.get(rs1).wrapping_add(offset) / 2 * 2;
-                jump(rd, target, pc, stop, regs)
+            Flat::Lui(rd, imm) => compute(rd, widened(imm), pc, regs),
+            Flat::Auipc(rd, imm) => {
+                let value = pc.address().wrapping_add(widened(imm));
+                compute(rd, value, pc, regs)
             }
-            Flat::Beq(rs1, rs2, offset) => {
-                let taken = is_taken(BranchOp::Beq, regs.get(rs1), regs.get(rs2));
-                branch(taken, pc.wrapping_add(offset), pc, stop)
+            Flat::Jal(rd, words) => jump(rd, words, pc, regs),
+            Flat::J(words) => go(words, pc),
+            Flat::Jalr(rd, rs1, imm) => {
+                let target = address(rs1, imm, regs) / 2 * 2;
+                jump_to(rd, target, pc, regs)
             }
-            Flat::Bne(rs1, rs2, offset) => {
-                let taken = is_taken(BranchOp::Bne, regs.get(rs1), regs.get(rs2));
-                branch(taken, pc.wrapping_add(offset), pc, stop)
+            Flat::Jr(rs1, imm) => {
+                let target = address(rs1, imm, regs) / 2 * 2;
+                go_to(target, pc)
             }
-            Flat::Blt(rs1, rs2, offset) => {
-                let taken = is_taken(BranchOp::Blt, regs.get(rs1), regs.get(rs2));
-                branch(taken, pc.wrapping_add(offset), pc, stop)
+            Flat::Beq(rs1, rs2, words) => branch(BranchOp::Beq, rs1, rs2, words, pc, regs),
+            Flat::Bne(rs1, rs2, words) => branch(BranchOp::Bne, rs1, rs2, words, pc, regs),
+            Flat::Blt(rs1, rs2, words) => branch(BranchOp::Blt, rs1, rs2, words, pc, regs),
+            Flat::Bge(rs1, rs2, words) => branch(BranchOp::Bge, rs1, rs2, words, pc, regs),
+            Flat::Bltu(rs1, rs2, words) => branch(BranchOp::Bltu, rs1, rs2, words, pc, regs),
+            Flat::Bgeu(rs1, rs2, words) => branch(BranchOp::Bgeu, rs1, rs2, words, pc, regs),
+            Flat::Lb(rd, rs1, imm) => {
+                let at = address(rs1, imm, regs);
+                load(LoadOp::Lb, rd, at, pc, regs, &shared.mem)
             }
-            Flat::Bge(rs1, rs2, offset) => {
-                let taken = is_taken(BranchOp::Bge, regs.get(rs1), regs.get(rs2));
-                branch(taken, pc.wrapping_add(offset), pc, stop)
+            Flat::Lh(rd, rs1, imm) => {
+                let at = address(rs1, imm, regs);
+                load(LoadOp::Lh, rd, at, pc, regs, &shared.mem)
             }
-            Flat::Bltu(rs1, rs2, offset) => {
-                let taken = is_taken(BranchOp::Bltu, regs.get(rs1), regs.get(rs2));
-                branch(taken, pc.wrapping_add(offset), pc, stop)
+            Flat::Lw(rd, rs1, imm) => {
+                let at = address(rs1, imm, regs);
+                load(LoadOp::Lw, rd, at, pc, regs, &shared.mem)
             }
-            Flat::Bgeu(rs1, rs2, offset) => {
-                let taken = is_taken(BranchOp::Bgeu, regs.get(rs1), regs.get(rs2));
-                branch(taken, pc.wrapping_add(offset), pc, stop)
+            Flat::Ld(rd, rs1, imm) => {
+                let at = address(rs1, imm, regs);
+                load(LoadOp::Ld, rd, at, pc, regs, &shared.mem)
             }
-            Flat::Lb(rd, rs1, offset) => {
-                let at = regs.get(rs1).wrapping_add(offset);
-                read(LoadOp::Lb, rd, at, pc, stop, regs, &shared.mem)
+            Flat::Lbu(rd, rs1, imm) => {
+                let at = address(rs1, imm, regs);
+                load(LoadOp::Lbu, rd, at, pc, regs, &shared.mem)
             }
-            Flat::Lh(rd, rs1, offset) => {
-                let at = regs.get(rs1).wrapping_add(offset);
-                read(LoadOp::Lh, rd, at, pc, stop, regs, &shared.mem)
+            Flat::Lhu(rd, rs1, imm) => {
+                let at = address(rs1, imm, regs);
+                load(LoadOp::Lhu, rd, at, pc, regs, &shared.mem)
             }
-            Flat::Lw(rd, rs1, offset) => {
-                let at = regs.get(rs1).wrapping_add(offset);
-                read(LoadOp::Lw, rd, at, pc, stop, regs, &shared.mem)
+            Flat::Lwu(rd, rs1, imm) => {
+                let at = address(rs1, imm, regs);
+                load(LoadOp::Lwu, rd, at, pc, regs, &shared.mem)
             }
-            Flat::Ld(rd, rs1, offset) => {
-                let at = regs.get(rs1).wrapping_add(offset);
-                read(LoadOp::Ld, rd, at, pc, stop, regs, &shared.mem)
+            Flat::Sb(rs1, rs2, imm) => {
+                let at = address(rs1, imm, regs);
+                store(StoreOp::Sb, hart, at, regs.get(rs2 as u32), pc, shared)
             }
-            Flat::Lbu(rd, rs1, offset) => {
-                let at = regs.get(rs1).wrapping_add(offset);
-                read(LoadOp::Lbu, rd, at, pc, stop, regs, &shared.mem)
+            Flat::Sh(rs1, rs2, imm) => {
+                let at = address(rs1, imm, regs);
+                store(StoreOp::Sh, hart, at, regs.get(rs2 as u32), pc, shared)
             }
-            Flat::Lhu(rd, rs1, offset) => {
-                let at = regs.get(rs1).wrapping_add(offset);
-                read(LoadOp::Lhu, rd, at, pc, stop, regs, &shared.mem)
+            Flat::Sw(rs1, rs2, imm) => {
+                let at = address(rs1, imm, regs);
+                store(StoreOp::Sw, hart, at, regs.get(rs2 as u32), pc, shared)
             }
-            Flat::Lwu(rd, rs1, offset) => {
-                let at = regs.get(rs1).wrapping_add(offset);
-                read(LoadOp::Lwu, rd, at, pc, stop, regs, &shared.mem)
-            }
-            Flat::Sb(rs1, rs2, offset) => {
-                let at = regs.get(rs1).wrapping_add(offset);
-                write(StoreOp::Sb, hart, at, regs.get(rs2), pc, stop, shared)
-            }
-            Flat::Sh(rs1, rs2, offset) => {
-                let at = regs.get(rs1).wrapping_add(offset);
-                write(StoreOp::Sh, hart, at, regs.get(rs2), pc, stop, shared)
-            }
-            Flat::Sw(rs1, rs2, offset) => {
-                let at = regs.get(rs1).wrapping_add(offset);
-                write(StoreOp::Sw, hart, at, regs.get(rs2), pc, stop, shared)
-            }
-            Flat::Sd(rs1, rs2, offset) => {
-                let at = regs.get(rs1).wrapping_add(offset);
-                write(StoreOp::Sd, hart, at, regs.get(rs2), pc, stop, shared)
+            Flat::Sd(rs1, rs2, imm) => {
+                let at = address(rs1, imm, regs);
+                store(StoreOp::Sd, hart, at, regs.get(rs2 as u32), pc, shared)
             }
             Flat::Addi(rd, rs1, imm) => immediate(ImmOp::Addi, rd, rs1, imm, pc, regs),
             Flat::Slti(rd, rs1, imm) => immediate(ImmOp::Slti, rd, rs1, imm, pc, regs),
@@ -136,7 +125,7 @@ impl Flat {
             Flat::Srli(rd, rs1, by) => shift(ShiftOp::Srl, rd, rs1, by, pc, regs),
             Flat::Srai(rd, rs1, by) => shift(ShiftOp::Sra, rd, rs1, by, pc, regs),
             Flat::Addiw(rd, rs1, imm) => {
-                let value = low_word_of(regs.get(rs1).wrapping_add(imm));
+                let value = low_word_of(address(rs1, imm, regs));
                 compute(rd, value, pc, regs)
             }
             Flat::Slliw(rd, rs1, by) => shift_32(ShiftOp::Sll, rd, rs1, by, pc, regs),
@@ -170,30 +159,6 @@ impl Flat {
             Flat::Divuw(rd, rs1, rs2) => operate_32(RegOp32::Divuw, rd, rs1, rs2, pc, regs),
             Flat::Remw(rd, rs1, rs2) => operate_32(RegOp32::Remw, rd, rs1, rs2, pc, regs),
             Flat::Remuw(rd, rs1, rs2) => operate_32(RegOp32::Remuw, rd, rs1, rs2, pc, regs),
-            Flat::Fence(..) => {
-                *pc = next_pc(*pc);
-                true
-            }
-            Flat::Ecall => {
-                *pc = call(*pc, stop, regs, &shared.mem, &mut shared.out);
-                stop.is_none()
-            }
-            Flat::Ebreak => {
-                *stop = Some(Cause::Break);
-                false
-            }
-            Flat::Lr(..) | Flat::Sc(..) | Flat::Amo(..) => {
-                *pc = access(
-                    self,
-                    hart,
-                    *pc,
-                    stop,
-                    regs,
-                    &mut shared.mem,
-                    &mut shared.resv,
-                );
-                stop.is_none()
-            }
         }
     }
 }

@@ -1,7 +1,7 @@
 //! What the forms of instructions do to the pc, the registers, the memory and the reservations. Each step returns whether
 //! the hart goes on, and else notes the cause of the stop.
 
-ghost use Rattle.std.specs.Prelude.{true, ◌≡◌, ◌<◌, ◌≤◌, length, List, ℕ, Option, None, is_none};
+ghost use Rattle.std.specs.Prelude.{true, ◌≡◌, ◌<◌, length, List, ℕ, Option, None, is_none};
 ghost use Rattle.rv_word.specs.Exec.{Prog, perform, next};
 ghost use Rattle.rv_word.specs.Registers.{reg, with_reg};
 ghost use Rattle.rv_word.specs.Values.{imm_value, shift_value, shift_word_value, reg_value, reg_32_value, store_len};
@@ -11,7 +11,6 @@ ghost use Rattle.rv_exec.specs.Shared.{prog_in};
 
 use crate::outcomes::{cause_of, next_pc};
 use crate::regs::Regs;
-use crate::reservations::Reservations;
 use crate::shared::Shared;
 use crate::values::{
     imm_result, load_result, load_width, reg_32_result, reg_result, shift_result,
@@ -22,7 +21,6 @@ use rv_mem::Mem;
 use rv_word::{Cause, ImmOp, LoadOp, RegOp, RegOp32, ShiftOp, StoreOp};
 
 /// Puts the value into rd, and goes on at the next word.
-#[inline(always)]
 pub fn compute(rd: u32, value: u64, pc: &mut u64, regs: &mut Regs) -> bool
     requires { rd < 32 }
     ensures goes { result ≡ true }
@@ -35,7 +33,6 @@ pub fn compute(rd: u32, value: u64, pc: &mut u64, regs: &mut Regs) -> bool
 }
 
 /// An operation on a register and an immediate.
-#[inline(always)]
 pub fn immediate(op: ImmOp, rd: u32, rs1: u32, imm: u64, pc: &mut u64, regs: &mut Regs) -> bool
     requires { (rd < 32) × (rs1 < 32) }
     ensures goes { result ≡ true }
@@ -46,7 +43,6 @@ pub fn immediate(op: ImmOp, rd: u32, rs1: u32, imm: u64, pc: &mut u64, regs: &mu
 }
 
 /// A shift by a number of bits below 64.
-#[inline(always)]
 pub fn shift(op: ShiftOp, rd: u32, rs1: u32, by: u32, pc: &mut u64, regs: &mut Regs) -> bool
     requires { (rd < 32) × (rs1 < 32) × (by < 64) }
     ensures goes { result ≡ true }
@@ -57,7 +53,6 @@ pub fn shift(op: ShiftOp, rd: u32, rs1: u32, by: u32, pc: &mut u64, regs: &mut R
 }
 
 /// A shift of the low half by a number of bits below 32.
-#[inline(always)]
 pub fn shift_32(op: ShiftOp, rd: u32, rs1: u32, by: u32, pc: &mut u64, regs: &mut Regs) -> bool
     requires { (rd < 32) × (rs1 < 32) × (by < 32) }
     ensures goes { result ≡ true }
@@ -68,7 +63,6 @@ pub fn shift_32(op: ShiftOp, rd: u32, rs1: u32, by: u32, pc: &mut u64, regs: &mu
 }
 
 /// An operation on two registers.
-#[inline(always)]
 pub fn operate(op: RegOp, rd: u32, rs1: u32, rs2: u32, pc: &mut u64, regs: &mut Regs) -> bool
     requires { (rd < 32) × (rs1 < 32) × (rs2 < 32) }
     ensures goes { result ≡ true }
@@ -79,7 +73,6 @@ pub fn operate(op: RegOp, rd: u32, rs1: u32, rs2: u32, pc: &mut u64, regs: &mut 
 }
 
 /// An operation on the low halves of two registers.
-#[inline(always)]
 pub fn operate_32(op: RegOp32, rd: u32, rs1: u32, rs2: u32, pc: &mut u64, regs: &mut Regs) -> bool
     requires { (rd < 32) × (rs1 < 32) × (rs2 < 32) }
     ensures goes { result ≡ true }
@@ -95,7 +88,6 @@ pub fn operate_32(op: RegOp32, rd: u32, rs1: u32, rs2: u32, pc: &mut u64, regs: 
 }
 
 /// A jump, whose register takes the address of the next word.
-#[inline(always)]
 #[tactic(auto, unfolding(rv_word::specs::Exec::perform))]
 pub fn jump(rd: u32, target: u64, pc: &mut u64, stop: &mut Option<Cause>, regs: &mut Regs) -> bool
     requires rd { rd < 32 }
@@ -114,7 +106,6 @@ pub fn jump(rd: u32, target: u64, pc: &mut u64, stop: &mut Option<Cause>, regs: 
 }
 
 /// A branch, which is taken or not.
-#[inline(always)]
 #[tactic(auto, unfolding(rv_word::specs::Exec::perform))]
 pub fn branch(taken: bool, target: u64, pc: &mut u64, stop: &mut Option<Cause>) -> bool
     requires { stop.old ≡ None }
@@ -134,38 +125,7 @@ pub fn branch(taken: bool, target: u64, pc: &mut u64, stop: &mut Option<Cause>) 
     true
 }
 
-/// What a load does but for the pc, wherever the bytes are.
-#[inline(never)]
-#[tactic(auto, unfolding(rv_word::specs::Exec::perform))]
-fn read_anywhere(
-    op: LoadOp,
-    rd: u32,
-    at: u64,
-    stop: &mut Option<Cause>,
-    regs: &mut Regs,
-    mem: &Mem,
-) -> bool
-    requires rd { rd < 32 }
-    requires stop { stop.old ≡ None }
-    ensures goes { result ≡ is_none stop.new }
-    ensures state { (pc : ℕ) (resv : List (Option ℕ)) (out : List ℕ)
-        → IsExecuted (perform 0 (ReadMemory op rd at) pc)
-        (state_from regs.old mem.now resv out) (next_after stop.new (next pc)) (state_from regs.new mem.now resv out) }
-{
-    match mem.load(at, load_width(op)) {
-        Ok(n) => {
-            regs.set(rd, load_result(op, n));
-            true
-        }
-        Err(e) => {
-            *stop = Some(cause_of(e));
-            false
-        }
-    }
-}
-
 /// A load.
-#[inline(always)]
 #[tactic(auto, unfolding(rv_word::specs::Exec::perform))]
 pub fn read(
     op: LoadOp,
@@ -183,42 +143,10 @@ pub fn read(
         → IsExecuted (perform 0 (ReadMemory op rd at) pc.old)
         (state_from regs.old mem.now resv out) (next_after stop.new pc.new) (state_from regs.new mem.now resv out) }
 {
-    if let Some(n) = mem.quick_load(at, load_width(op)) {
-        regs.set(rd, load_result(op, n));
-        *pc = next_pc(*pc);
-        return true;
-    }
-    if !read_anywhere(op, rd, at, stop, regs, mem) {
-        return false;
-    }
-    *pc = next_pc(*pc);
-    true
-}
-
-/// What a store does but for the pc, wherever the bytes are.
-#[inline(never)]
-#[tactic(auto, unfolding(rv_word::specs::Exec::perform))]
-fn write_anywhere(
-    len: u32,
-    hart: HartNo,
-    at: u64,
-    value: u64,
-    stop: &mut Option<Cause>,
-    mem: &mut Mem,
-    resv: &mut Reservations,
-) -> bool
-    requires hart { hart < length resv.old }
-    requires len { (1 ≤ len) × (len ≤ 8) }
-    requires stop { stop.old ≡ None }
-    ensures harts { length resv.new ≡ length resv.old }
-    ensures goes { result ≡ is_none stop.new }
-    ensures state { (pc : ℕ) (regs out : List ℕ)
-        → IsExecuted (perform hart (WriteMemory len at value) pc)
-        (state_from regs mem.old resv.old out) (next_after stop.new (next pc)) (state_from regs mem.new resv.new out) }
-{
-    match mem.store(at, len, value) {
-        Ok(()) => {
-            resv.break_others(hart, at / 8, at.wrapping_add((len - 1) as u64) / 8);
+    match mem.load(at, load_width(op)) {
+        Ok(n) => {
+            regs.set(rd, load_result(op, n));
+            *pc = next_pc(*pc);
             true
         }
         Err(e) => {
@@ -229,7 +157,6 @@ fn write_anywhere(
 }
 
 /// A store.
-#[inline(always)]
 #[tactic(auto, unfolding(rv_word::specs::Exec::perform))]
 pub fn write(
     op: StoreOp,
@@ -248,24 +175,16 @@ pub fn write(
         (state_of regs (prog_in shared.old)) (next_after stop.new pc.new) (state_of regs (prog_in shared.new)) }
 {
     let len = store_width(op);
-    if shared.mem.quick_store(at, len, value) {
-        shared
-            .resv
-            .break_others(hart, at / 8, at.wrapping_add((len - 1) as u64) / 8);
-        *pc = next_pc(*pc);
-        return true;
+    match shared.mem.store(at, len, value) {
+        Ok(()) => {
+            let last = at.wrapping_add((len - 1) as u64) / 8;
+            shared.resv.break_others(hart, at / 8, last);
+            *pc = next_pc(*pc);
+            true
+        }
+        Err(e) => {
+            *stop = Some(cause_of(e));
+            false
+        }
     }
-    if !write_anywhere(
-        len,
-        hart,
-        at,
-        value,
-        stop,
-        &mut shared.mem,
-        &mut shared.resv,
-    ) {
-        return false;
-    }
-    *pc = next_pc(*pc);
-    true
 }

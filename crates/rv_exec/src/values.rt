@@ -4,6 +4,7 @@ ghost use Rattle.std.specs.Prelude.{◌≡◌, ◌≢◌, ◌<◌, ◌^◌, ◌*
 ghost use Rattle.std.specs.Int.{w32, cast_signed, cast_unsigned};
 ghost use Rattle.std.specs.Int.RustNames.{int_div};
 ghost use Rattle.rv_word.specs.Values.{imm_value, shift_value, shift_word_value, is_branch_taken, reg_value, reg_32_value, high, loaded, load_len, low_word, store_len, flag};
+ghost use Rattle.rv_exec.specs.Flat.{wide};
 
 use rv_word::{BranchOp, ImmOp, LoadOp, RegOp, RegOp32, ShiftOp, StoreOp};
 
@@ -19,6 +20,14 @@ pub fn low_word_of(x: u64) -> u64
 {
     let low = (x % 0x1_0000_0000) as u32;
     (low.cast_signed() as i64).cast_unsigned()
+}
+
+/// The 64-bit number of an immediate with its sign.
+#[inline(always)]
+pub fn widened(immediate: i32) -> u64
+    ensures { result ≡ wide immediate }
+{
+    (immediate as i64).cast_unsigned()
 }
 
 /// What an operation on a register and an immediate computes.
