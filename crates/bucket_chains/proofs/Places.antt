@@ -1,7 +1,7 @@
 -- The entries after a push and after a removal, by place.
-use Rattle.std.proofs.Common.{◌≡◌, ◌≢◌, ℕ, ◌<◌, Option, Some, None, List, [], ◌∷◌, ◌++◌, length, set, get_or, replicate, inl, inr, ◌⊎◌, refl, sym, ap, ◌∙◌, subst, arith, zero, suc, true, false, true≢false, nat_eq}
-use Rattle.std.proofs.lemmas.List.{get_or_append_left, get_or-set_other, length-replicate, get_or-replicate}
-use Rattle.std.proofs.lemmas.Bool.{cases_Bool, eqb-true, eqb-false}
+use Rattle.std.proofs.Common.{◌≡◌, ◌≢◌, ℕ, ◌<◌, ◌≤◌, Option, Some, None, List, [], ◌∷◌, ◌++◌, length, set, get_or, inl, inr, ◌⊎◌, refl, sym, ap, ◌∙◌, subst, arith, zero, suc, true, false, true≢false, nat_eq}
+use Rattle.std.proofs.lemmas.List.{get_or_append_left, get_or-set_other, get_or_past}
+use Rattle.std.proofs.lemmas.Bool.{cases_lt, cases_Bool, eqb-true, eqb-false}
 use Rattle.std.proofs.lemmas.Option.{none-some}
 use Rattle.std.specs.Option.{is_some}
 use Rattle.bucket_chains.specs.Entries.{bucket_at, IsFirst}
@@ -61,20 +61,41 @@ some_of None h = absurd (true≢false (sym h))
 some_of (Some j) h = (j, refl)
 
 -- where there is no entry, no bucket has one
-pub blank : {buckets nexts previous firsts lasts : List (Option ℕ)} → buckets ≡ [] → nexts ≡ [] → previous ≡ [] → firsts ≡ replicate BUCKETS None → lasts ≡ replicate BUCKETS None
+pub blank : {buckets nexts previous firsts lasts : List (Option ℕ)} → buckets ≡ [] → nexts ≡ [] → previous ≡ [] → firsts ≡ [] → lasts ≡ []
     → IsChained buckets nexts previous firsts lasts
 blank {buckets} {nexts} {previous} {firsts} {lasts} es ns ps fs ls =
     record {
       next_places = ap length ns ∙ sym (ap length es);
       previous_places = ap length ps ∙ sym (ap length es);
-      first_places = ap length fs ∙ length-replicate {A = Option ℕ} BUCKETS None;
-      last_places = ap length ls ∙ length-replicate {A = Option ℕ} BUCKETS None;
       below = λ i b at. absurd (no_entry i b at);
       next = λ i b at. absurd (no_entry i b at);
       before = λ i b at. absurd (no_entry i b at);
-      first = λ b lt. subst (IsFirst b 0 buckets) (sym (ap (λ l. get_or l b None) fs ∙ get_or-replicate BUCKETS b None None lt)) (λ i ge at. no_entry i b at);
-      last = λ b lt. subst (IsLast b buckets) (sym (ap (λ l. get_or l b None) ls ∙ get_or-replicate BUCKETS b None None lt)) (λ i ge at. no_entry i b at);
+      first = λ b lt. subst (IsFirst b 0 buckets) (sym (ap (λ l. get_or l b None) fs)) (λ i ge at. no_entry i b at);
+      last = λ b lt. subst (IsLast b buckets) (sym (ap (λ l. get_or l b None) ls)) (λ i ge at. no_entry i b at);
     }
   where
     no_entry : (i b : ℕ) → bucket_at buckets i ≡ Some b → ⊥
     no_entry i b at = none-some b (sym (ap (λ l. bucket_at l i) es) ∙ at)
+
+-- other lists of the buckets' ends say the same
+pub same_ends : {buckets nexts previous firsts lasts : List (Option ℕ)} (fs ls : List (Option ℕ)) → ((b : ℕ) → b < BUCKETS → get_or fs b None ≡ get_or firsts b None) → ((b : ℕ) → b < BUCKETS → get_or ls b None ≡ get_or lasts b None)
+    → IsChained buckets nexts previous firsts lasts → IsChained buckets nexts previous fs ls
+same_ends {buckets} {nexts} {previous} {firsts} {lasts} fs ls f l chained =
+    record {
+      next_places = chained.next_places;
+      previous_places = chained.previous_places;
+      below = chained.below;
+      next = chained.next;
+      before = chained.before;
+      first = λ b lt. subst (IsFirst b 0 buckets) (sym (f b lt)) (chained.first b lt);
+      last = λ b lt. subst (IsLast b buckets) (sym (l b lt)) (chained.last b lt);
+    }
+
+-- ends that are filled up by none say the same
+pub filled_ends : (old new : List (Option ℕ)) → ((i : ℕ) (d : Option ℕ) → i < BUCKETS → i < length old → get_or new i d ≡ get_or old i d) → ((i : ℕ) (d : Option ℕ) → length old ≤ i → i < BUCKETS → get_or new i d ≡ None)
+    → (b : ℕ) → b < BUCKETS → get_or new b None ≡ get_or old b None
+filled_ends old new kept more b lt = by (cases_lt b (length old))
+  where
+    by : (b < length old) ⊎ (length old ≤ b) → get_or new b None ≡ get_or old b None
+    by (inl below) = kept b None lt below
+    by (inr past) = more b None past lt ∙ sym (get_or_past old b None past)

@@ -68,14 +68,14 @@ module _ (es : List (Option ℕ)) (b : ℕ) where
   behind_last None h = none_between b 0 (length es) (omega arith) (λ i ge lt at. h i ge at)
   behind_last (Some q) h = (within es q b h.0, still es (Some b) q b h.0, none_between b (q + 1) (length es) (omega arith) (λ i ge lt at. h.1 i ge at))
 
-  module _ (ns ps fs ls : List (Option ℕ)) (chained : IsChained es ns ps fs ls) (lt : b < BUCKETS) where
+  module _ (ns ps fs ls : List (Option ℕ)) (chained : IsChained es ns ps fs ls) (lt : b < BUCKETS) (long : length ls ≡ BUCKETS) where
     lasts : (c : ℕ) → c < BUCKETS → IsLast c more (get_or (set ls b (Some (length es))) c None)
     lasts c below = by (same_or_other c b)
       where
         by : (c ≡ b) ⊎ (c ≡ b → ⊥) → IsLast c more (get_or (set ls b (Some (length es))) c None)
         by (inl e) =
             subst (λ k. IsLast k more (get_or (set ls b (Some (length es))) k None)) (sym e)
-            (subst (IsLast b more) (sym (get_or-set_same ls b (Some (length es)) None (omega (arith, lt, chained.last_places))))
+            (subst (IsLast b more) (sym (get_or-set_same ls b (Some (length es)) None (omega (arith, lt, long))))
             (behind es (Some b), no_more))
         by (inr other) = subst (IsLast c more) (sym (get_or-set_other ls b c (Some (length es)) None other)) (last_kept c (get_or ls c None) other (chained.last c below))
 
@@ -111,15 +111,13 @@ module _ (es : List (Option ℕ)) (b : ℕ) where
         by (inr new) = subst (λ k. k < BUCKETS) (same_Some b c new.1) lt
 
     -- the first entry of its bucket
-    pub pushed_first : get_or ls b None ≡ None → IsChained more (ns ++ None ∷ []) ps_more (set fs b (Some (length es))) (set ls b (Some (length es)))
-    pushed_first none =
+    pub pushed_first : length fs ≡ BUCKETS → get_or ls b None ≡ None → IsChained more (ns ++ None ∷ []) ps_more (set fs b (Some (length es))) (set ls b (Some (length es)))
+    pushed_first firsts none =
         record {
           next_places = omega (arith, chained.next_places, length-append ns (None ∷ []), length-append es (Some b ∷ []));
           previous_places = omega (arith, chained.previous_places, length-append ps (get_or ls b None ∷ []), length-append es (Some b ∷ []));
           below = belows;
           before = befores;
-          first_places = length-set fs b (Some (length es)) ∙ chained.first_places;
-          last_places = length-set ls b (Some (length es)) ∙ chained.last_places;
           next = next;
           first = first;
           last = lasts;
@@ -146,7 +144,7 @@ module _ (es : List (Option ℕ)) (b : ℕ) where
             by : (c ≡ b) ⊎ (c ≡ b → ⊥) → IsFirst c 0 more (get_or (set fs b (Some (length es))) c None)
             by (inl e) =
                 subst (λ k. IsFirst k 0 more (get_or (set fs b (Some (length es))) k None)) (sym e)
-                (subst (IsFirst b 0 more) (sym (get_or-set_same fs b (Some (length es)) None (omega (arith, lt, chained.first_places))))
+                (subst (IsFirst b 0 more) (sym (get_or-set_same fs b (Some (length es)) None (omega (arith, lt, firsts))))
                 (first_comes 0 (omega arith) empty))
             by (inr other) =
                 subst (IsFirst c 0 more) (sym (get_or-set_other fs b c (Some (length es)) None other))
@@ -160,8 +158,6 @@ module _ (es : List (Option ℕ)) (b : ℕ) where
           previous_places = omega (arith, chained.previous_places, length-append ps (get_or ls b None ∷ []), length-append es (Some b ∷ []));
           below = belows;
           before = befores;
-          first_places = chained.first_places;
-          last_places = length-set ls b (Some (length es)) ∙ chained.last_places;
           next = next;
           first = λ c below. first_kept c 0 (get_or fs c None) (λ e. (l, omega arith, is_last.0)) (chained.first c below);
           last = lasts;
@@ -228,8 +224,6 @@ module _ (es : List (Option ℕ)) where
       record {
         next_places = omega (arith, chained.next_places, length-append ns (None ∷ []), length-append es (None ∷ []));
         previous_places = omega (arith, chained.previous_places, length-append ps (None ∷ []), length-append es (None ∷ []));
-        first_places = chained.first_places;
-        last_places = chained.last_places;
         below = λ i c at. chained.below i c (was_there i c at);
         next = λ i c at.
             subst (IsFirst c (i + 1) wider) (sym (get_or_append_left ns (None ∷ []) None i (omega (arith, within es i c (was_there i c at), chained.next_places))))

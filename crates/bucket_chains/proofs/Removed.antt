@@ -11,14 +11,12 @@ use Rattle.bucket_chains.proofs.Places.{within, kept, was, same_or_other}
 -- the two halves of the chains after a removal: the ways forward and back
 pub record Forward (buckets nexts firsts : List (Option ℕ)) : Type 0 where
   pub next_places : length nexts ≡ length buckets
-  pub first_places : length firsts ≡ BUCKETS
   pub below : (i b : ℕ) → bucket_at buckets i ≡ Some b → b < BUCKETS
   pub next : (i b : ℕ) → bucket_at buckets i ≡ Some b → IsFirst b (i + 1) buckets (get_or nexts i None)
   pub first : (b : ℕ) → b < BUCKETS → IsFirst b 0 buckets (get_or firsts b None)
 
 pub record Backward (buckets previous lasts : List (Option ℕ)) : Type 0 where
   pub previous_places : length previous ≡ length buckets
-  pub last_places : length lasts ≡ BUCKETS
   pub before : (i b : ℕ) → bucket_at buckets i ≡ Some b → IsNextBelow b (get_or previous i None) i buckets
   pub last : (b : ℕ) → b < BUCKETS → IsLast b buckets (get_or lasts b None)
 
@@ -27,8 +25,6 @@ both f k =
     record {
       next_places = f.next_places;
       previous_places = k.previous_places;
-      first_places = f.first_places;
-      last_places = k.last_places;
       below = f.below;
       next = f.next;
       before = k.before;
@@ -98,11 +94,10 @@ module _ (es : List (Option ℕ)) (b place : ℕ) (there : bucket_at es place �
     belows i c at = chained.below i c (was es place i c at).0
 
     -- the first entry of its bucket leaves
-    pub first_leaves : HasNone b 0 place es → Forward less ns (set fs b (get_or ns place None))
-    first_leaves none =
+    pub first_leaves : length fs ≡ BUCKETS → HasNone b 0 place es → Forward less ns (set fs b (get_or ns place None))
+    first_leaves long none =
         record {
           next_places = chained.next_places ∙ sym (length-set es place None);
-          first_places = length-set fs b (get_or ns place None) ∙ chained.first_places;
           below = belows;
           next = next;
           first = first;
@@ -119,7 +114,7 @@ module _ (es : List (Option ℕ)) (b place : ℕ) (there : bucket_at es place �
             by : (c ≡ b) ⊎ (c ≡ b → ⊥) → IsFirst c 0 less (get_or (set fs b (get_or ns place None)) c None)
             by (inl e) =
                 subst (λ k. IsFirst k 0 less (get_or (set fs b (get_or ns place None)) k None)) (sym e)
-                (subst (IsFirst b 0 less) (sym (get_or-set_same fs b (get_or ns place None) None (omega (arith, lt, chained.first_places))))
+                (subst (IsFirst b 0 less) (sym (get_or-set_same fs b (get_or ns place None) None (omega (arith, lt, long))))
                 (first_passes 0 (get_or ns place None) (omega arith, there, none) follows))
             by (inr other) =
                 subst (IsFirst c 0 less) (sym (get_or-set_other fs b c (get_or ns place None) None other))
@@ -130,7 +125,6 @@ module _ (es : List (Option ℕ)) (b place : ℕ) (there : bucket_at es place �
     later_leaves q behind =
         record {
           next_places = length-set ns q (get_or ns place None) ∙ chained.next_places ∙ sym (length-set es place None);
-          first_places = chained.first_places;
           below = belows;
           next = next;
           first = λ c below. first_left c 0 (get_or fs c None) (chained.first c below) (λ h e. h.2 q (omega arith) behind.0 behind.1);
@@ -166,11 +160,10 @@ module _ (es : List (Option ℕ)) (b place : ℕ) (there : bucket_at es place �
     behind_stays c i (Some q) apart h = (h.0, kept es place q c (λ e. apart (ap Some e)) h.1, none_left c (q + 1) i h.2)
 
     -- the last entry of its bucket leaves
-    pub last_leaves : HasNoMore b (place + 1) es → Backward less ps (set ls b (get_or ps place None))
-    last_leaves none =
+    pub last_leaves : length ls ≡ BUCKETS → HasNoMore b (place + 1) es → Backward less ps (set ls b (get_or ps place None))
+    last_leaves long none =
         record {
           previous_places = chained.previous_places ∙ sym (length-set es place None);
-          last_places = length-set ls b (get_or ps place None) ∙ chained.last_places;
           before = before;
           last = last;
         }
@@ -195,7 +188,7 @@ module _ (es : List (Option ℕ)) (b place : ℕ) (there : bucket_at es place �
             by : (c ≡ b) ⊎ (c ≡ b → ⊥) → IsLast c less (get_or (set ls b (get_or ps place None)) c None)
             by (inl e) =
                 subst (λ k. IsLast k less (get_or (set ls b (get_or ps place None)) k None)) (sym e)
-                (subst (IsLast b less) (sym (get_or-set_same ls b (get_or ps place None) None (omega (arith, lt, chained.last_places)))) (own (get_or ps place None) behind))
+                (subst (IsLast b less) (sym (get_or-set_same ls b (get_or ps place None) None (omega (arith, lt, long)))) (own (get_or ps place None) behind))
             by (inr other) =
                 subst (IsLast c less) (sym (get_or-set_other ls b c (get_or ps place None) None other))
                 (last_stays c (get_or ls c None) (λ e. other (same_bucket c (subst (IsLast c es) e (chained.last c below)).0)) (chained.last c below))
@@ -205,7 +198,6 @@ module _ (es : List (Option ℕ)) (b place : ℕ) (there : bucket_at es place �
     earlier_leaves j another =
         record {
           previous_places = length-set ps j (get_or ps place None) ∙ chained.previous_places ∙ sym (length-set es place None);
-          last_places = chained.last_places;
           before = before;
           last = last;
         }

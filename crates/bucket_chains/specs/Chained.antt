@@ -16,8 +16,6 @@ IsNextBelow b (Some before) place buckets = (before < place) × (bucket_at bucke
 pub record IsChained (buckets nexts previous firsts lasts : List (Option ℕ)) : Type 0 where
   pub next_places : length nexts ≡ length buckets
   pub previous_places : length previous ≡ length buckets
-  pub first_places : length firsts ≡ BUCKETS
-  pub last_places : length lasts ≡ BUCKETS
   pub below : (i b : ℕ) → bucket_at buckets i ≡ Some b → b < BUCKETS
   pub next : (i b : ℕ) → bucket_at buckets i ≡ Some b → IsFirst b (i + 1) buckets (slice_index_or nexts i None)
   pub before : (i b : ℕ) → bucket_at buckets i ≡ Some b → IsNextBelow b (slice_index_or previous i None) i buckets
@@ -29,3 +27,8 @@ pub record HasRoom (entries capacity next previous room : ℕ) : Type 0 where
   pub buckets : entries + room ≤ capacity
   pub nexts : entries + room ≤ next
   pub befores : entries + room ≤ previous
+
+-- where there is an entry or room for one, each bucket has its ends; before, they need not be there
+pub record HasEnds (entries first last room : ℕ) : Type 0 where
+  pub firsts : 0 < entries + room → first ≡ BUCKETS
+  pub lasts : 0 < entries + room → last ≡ BUCKETS

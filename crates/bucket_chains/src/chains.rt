@@ -18,7 +18,7 @@ pub struct Chains {
     // For each entry the places of the next in its bucket and of the one before it.
     next: Vec<Option<usize>>,
     previous: Vec<Option<usize>>,
-    // For each bucket the places of its first entry and of its last.
+    // For each bucket the places of its first entry and of its last. Both lists are empty until there is room.
     first: Vec<Option<usize>>,
     last: Vec<Option<usize>>,
     room: usize,
@@ -27,7 +27,7 @@ pub struct Chains {
 impl Model for Chains {
     ghost use Rattle.std.specs.Prelude.{vec_capacity, vec_len};
     ghost use Rattle.bucket_chains.specs.Entries.{Entries};
-    ghost use Rattle.bucket_chains.specs.Chained.{IsChained, HasRoom};
+    ghost use Rattle.bucket_chains.specs.Chained.{IsChained, HasEnds, HasRoom};
 
     ghost Value = { Entries };
 
@@ -35,7 +35,8 @@ impl Model for Chains {
 
     ghost invariant = { λ c.
         IsChained c.buckets.items c.next.items c.previous.items c.first.items c.last.items
-        × HasRoom (vec_len c.buckets) (vec_capacity c.buckets) (vec_capacity c.next) (vec_capacity c.previous) c.room };
+        × HasRoom (vec_len c.buckets) (vec_capacity c.buckets) (vec_capacity c.next) (vec_capacity c.previous) c.room
+        × HasEnds (vec_len c.buckets) (vec_len c.first) (vec_len c.last) c.room };
 }
 
 // By a call of its own: what drops it need not prove the drops of all its parts.
@@ -60,17 +61,6 @@ fn bucket_of(key: u64) -> u32
     (key % u64::from(BUCKETS)) as u32
 }
 
-/// `count` times no place.
-fn no_places(alloc: Global, count: usize) -> Result<Vec<Option<usize>>, NoMemory>
-    ensures { IfOk result (λ places. places.items ≡ replicate count None) }
-{
-    let mut places = Vec::with_capacity(alloc, count)?;
-    for _ in 0..count {
-        places.push(None)?;
-    }
-    Ok(places)
-}
-
 impl Chains {
     /// No entries, and room for none.
     ///
@@ -84,8 +74,8 @@ impl Chains {
             buckets: Vec::new(alloc),
             next: Vec::new(alloc),
             previous: Vec::new(alloc),
-            first: no_places(alloc, BUCKETS as usize)?,
-            last: no_places(alloc, BUCKETS as usize)?,
+            first: Vec::new(alloc),
+            last: Vec::new(alloc),
             room: 0,
         })
     }
@@ -103,6 +93,10 @@ impl Chains {
         self.buckets.reserve(room)?;
         self.next.reserve(room)?;
         self.previous.reserve(room)?;
+        if 0 < room {
+            self.first.resize(BUCKETS as usize, None)?;
+            self.last.resize(BUCKETS as usize, None)?;
+        }
         self.room = room;
         Ok(())
     }
@@ -148,7 +142,7 @@ impl Chains {
     pub fn first(&self, key: u64) -> Option<usize>
         ensures { IsFirst (bucket_of key) 0 self.now.buckets result }
     {
-        self.first[bucket_of(key) as usize]
+        *self.first.get(bucket_of(key) as usize)?
     }
 
     /// The place of the next entry in the bucket of the one at a place.

@@ -1,5 +1,5 @@
 -- What a store begins with.
-use Rattle.std.proofs.Common.{◌≡◌, ℕ, zero, suc, ◌+◌, ◌*◌, ◌/◌, ◌≤◌, List, [], ◌∷◌, ◌++◌, length, drop, refl, ap, sym, ◌∙◌, arith, append_assoc, Some, replicate}
+use Rattle.std.proofs.Common.{◌≡◌, ℕ, zero, suc, ◌+◌, ◌*◌, ◌/◌, ◌≤◌, List, [], ◌∷◌, ◌++◌, length, drop, refl, ap, sym, ◌∙◌, arith, append_assoc, Some}
 use Rattle.pn_types.specs.declared.image.Image.{Image}
 use Rattle.pn_types.specs.declared.limits.TheConstants.{SEGMENTS_TO}
 use Rattle.pn_types.specs.Images.{IsImage, text_of}
@@ -9,10 +9,9 @@ use Rattle.std.specs.Prelude.{map}
 use Rattle.std.specs.FinMap.{from_entries, empty}
 use Rattle.std.proofs.lemmas.List.{append-nil}
 use Rattle.tramp_spec.specs.Codes.{text_entries, text_code}
-use Rattle.tramp_spec.specs.Marks.{own, tool}
-use Rattle.code_store.specs.declared.word_use.WordUse.TheVariants.{Unwritten}
+use Rattle.tramp_spec.specs.Marks.{own}
 use Rattle.code_store.specs.Stores.{StoredCode}
-use Rattle.code_store.specs.Views.{point_of, entries_from, put_among, AreBlank, code_of, owners_of}
+use Rattle.code_store.specs.Views.{entries_from, code_of}
 use Rattle.code_store.proofs.Entries.{read}
 
 -- ---- the words of an image
@@ -46,25 +45,8 @@ entries-own : (ws : List ℕ) (at : ℕ) → entries_from at (map (λ x. Some x)
 entries-own [] at = refl
 entries-own (w ∷ ws) at = ap (λ es. (at, own w) ∷ es) (entries-own ws (at + 4))
 
-entries-blank : (n at : ℕ) → entries_from at (put_among (replicate n (tool 0)) (replicate n Unwritten)) ≡ []
-entries-blank zero at = refl
-entries-blank (suc n) at = entries-blank n (at + 4)
-
-entries-unowned : (n at : ℕ) → entries_from at (map point_of (replicate n Unwritten)) ≡ []
-entries-unowned zero at = refl
-entries-unowned (suc n) at = entries-unowned n (at + 4)
-
-pub blank-first : (n : ℕ) → AreBlank (replicate n (tool 0)) (replicate n Unwritten)
-blank-first zero = tt
-blank-first (suc n) = ((λ _. refl), blank-first n)
-
-pub code-first : (ws : List ℕ) (at tools_at n : ℕ) → code_of at (map own ws) tools_at (replicate n (tool 0)) (replicate n Unwritten) ≡ text_code (record { at = at; words = ws })
-code-first ws at tools_at n =
-    ap (λ es. from_entries (entries_from at (map (λ x. Some x) (map own ws)) ++ es)) (entries-blank n tools_at)
-    ∙ ap (λ es. from_entries es) (append-nil (entries_from at (map (λ x. Some x) (map own ws))) ∙ entries-own ws at)
-
-pub owners-first : (n tools_at : ℕ) → owners_of tools_at (replicate n Unwritten) ≡ empty
-owners-first n tools_at = ap (λ es. from_entries es) (entries-unowned n tools_at)
+pub code-first : (ws : List ℕ) (at tools_at : ℕ) → code_of at (map own ws) tools_at [] [] ≡ text_code (record { at = at; words = ws })
+code-first ws at tools_at = ap (λ es. from_entries es) (append-nil (entries_from at (map (λ x. Some x) (map own ws))) ∙ entries-own ws at)
 
 -- a program's words, before anything is put
 abbrev pub stored_first : ℕ → List ℕ → StoredCode

@@ -2,6 +2,7 @@ pub mod Entries
 pub mod Uses
 pub mod Maps
 pub mod Fetches
+pub mod Filled
 pub mod Blocks
 pub mod Beginnings
 pub mod Operations

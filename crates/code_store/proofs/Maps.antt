@@ -55,6 +55,17 @@ owners-freed uses at i a u none l e =
     ∙ read-set (map point_of uses) at i a q None (simp length-map l) e
     ∙ ap (cond (nat_eq q a) None) (sym (get_one (map point_of uses) at q)))
 
+-- behind the array no word has an owner
+none_there : {A : Type 0} (b : Bool) (r : Option A) → (b ≡ true → r ≡ None) → r ≡ cond b None r
+none_there true r none = none refl
+none_there false r none = refl
+
+pub owners-past : (uses : List WordUse) (at i a : ℕ) → length uses ≤ i → a ≡ at + 4 * i → owners_of at uses ≡ remove (owners_of at uses) a
+owners-past uses at i a past e =
+    removed (entries_from at (map point_of uses)) (entries_from at (map point_of uses)) a (λ q.
+    none_there (nat_eq q a) (get (owners_of at uses) q) (λ here.
+    get_one (map point_of uses) at q ∙ read_past (map point_of uses) at q (let same = eqb-true q a here in simp length-map (omega (arith, same, e, past)))))
+
 pub owners-same : (uses : List WordUse) (at i : ℕ) (u v : WordUse) → u ≡ get_or uses i u → point_of v ≡ point_of u → owners_of at (slice_set uses i v) ≡ owners_of at uses
 owners-same uses at i u v is same = ap (λ xs. from_entries (entries_from at xs)) (map-set_same point_of uses i v u (same ∙ ap point_of is))
 

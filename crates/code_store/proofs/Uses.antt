@@ -1,6 +1,6 @@
 -- What the words of the tool text are for, one by one and in their array.
-use Rattle.std.proofs.Common.{◌≡◌, ℕ, zero, suc, ◌+◌, ◌*◌, ◌<◌, List, [], ◌∷◌, length, get_or, Some, None, refl, sym, ap, ◌∙◌, arith}
-use Rattle.std.specs.Prelude.{nat_eq, slice_get, slice_set, unwrap_or}
+use Rattle.std.proofs.Common.{◌≡◌, ℕ, zero, suc, ◌+◌, ◌*◌, List, [], ◌∷◌, length, get_or, Some, None, refl, sym, ap, ◌∙◌, arith}
+use Rattle.std.specs.Prelude.{nat_eq, slice_set, unwrap_or}
 use Rattle.std.proofs.lemmas.Bool.{cond-true, cond-false, eq-eqb, ne_eqb}
 use Rattle.tramp_spec.specs.Marks.{tool}
 use Rattle.tramp_spec.specs.declared.mark.MarkedWord.{MarkedWord}
@@ -62,15 +62,13 @@ blank_one Unwritten w h = h refl
 blank_one Free w h = refl
 blank_one (Block point) w h = refl
 
--- what stands in the array is what is fetched
-pub blank_at : (ws : List MarkedWord) (us : List WordUse) (at i q : ℕ) → AreBlank ws us → length us ≡ length ws → i < length ws → q ≡ at + 4 * i → slice_get ws i ≡ Some (unwrap_or (read at (put_among ws us) q) (tool 0))
-blank_at [] us at i q b n l e = absurd (omega arith)
-blank_at (w ∷ ws) [] at i q b n l e = absurd (omega arith)
-blank_at (w ∷ ws) (u ∷ us) at zero q b n l e =
-    ap (λ o. Some o) (blank_one u w b.0 ∙ ap (λ o. unwrap_or o (tool 0)) (sym (cond-true (nat_eq q at) _ _ (eq-eqb q at (omega arith)))))
-blank_at (w ∷ ws) (u ∷ us) at (suc i) q b n l e =
-    blank_at ws us (at + 4) i q b.1 (omega arith) (omega arith) (omega arith)
-    ∙ ap (λ o. Some (unwrap_or o (tool 0))) (sym (cond-false (nat_eq q at) _ _ (ne_eqb q at (λ z. omega arith))))
+-- what stands in the array is what is fetched, and behind it the word that is fetched where nothing was put
+pub blank_at : (ws : List MarkedWord) (us : List WordUse) (at i q : ℕ) → AreBlank ws us → length us ≡ length ws → q ≡ at + 4 * i → get_or ws i (tool 0) ≡ unwrap_or (read at (put_among ws us) q) (tool 0)
+blank_at [] us at i q b n e = refl
+blank_at (w ∷ ws) [] at i q b n e = absurd (omega arith)
+blank_at (w ∷ ws) (u ∷ us) at zero q b n e = blank_one u w b.0 ∙ ap (λ o. unwrap_or o (tool 0)) (sym (cond-true (nat_eq q at) _ _ (eq-eqb q at (omega arith))))
+blank_at (w ∷ ws) (u ∷ us) at (suc i) q b n e =
+    blank_at ws us (at + 4) i q b.1 (omega arith) (omega arith) ∙ ap (λ o. unwrap_or o (tool 0)) (sym (cond-false (nat_eq q at) _ _ (ne_eqb q at (λ z. omega arith))))
 
 pub blank-put : (ws : List MarkedWord) (us : List WordUse) (i : ℕ) (w : MarkedWord) (u : WordUse) → (u ≡ Unwritten → w ≡ tool 0) → AreBlank ws us → AreBlank (slice_set ws i w) (slice_set us i u)
 blank-put [] us i w u h b = tt

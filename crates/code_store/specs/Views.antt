@@ -1,5 +1,5 @@
 -- For proofs alone: the maps for which the arrays of a store stand.
-use Rattle.std.specs.Prelude.{◌≡◌, ℕ, ◌+◌, ◌-◌, ◌*◌, ◌/◌, if◌then◌else◌, Option, Some, None, List, [], ◌∷◌, ◌++◌, length, map, slice_get}
+use Rattle.std.specs.Prelude.{◌≡◌, ℕ, ◌+◌, ◌-◌, ◌*◌, ◌/◌, ◌<◌, ◌≤◌, ◌^◌, if◌then◌else◌, Option, Some, None, List, [], ◌∷◌, ◌++◌, length, map, slice_get}
 use Rattle.std.specs.FinMap.{from_entries}
 use Rattle.pn_types.specs.declared.limits.TheConstants.{TOOL_TEXT_LEN}
 use Rattle.tramp_spec.specs.Codes.{Code, is_word_of, tool_at}
@@ -61,15 +61,19 @@ AreBlank (w ∷ ws) (u ∷ us) = (u ≡ Unwritten → w ≡ tool 0) × AreBlank 
 -- ---- a store
 
 -- The arrays fit each other: a slot and a flat for each word of the program, and a slot and a use for each word of the tool text, which
--- begins where it must.
+-- begins where it must, up to the last that was put; there is a slot for the words behind it, and room for them.
 pub record FitTogether (words : List ℕ) (text_at : ℕ) (text : List MarkedWord) (flats : List Flat)
-    (tools_at : ℕ) (tools : List MarkedWord) (uses : List WordUse) : Type 0 where
+    (tools_at : ℕ) (tools : List MarkedWord) (uses : List WordUse) (behind_last : MarkedWord) (slots_to uses_to : ℕ) : Type 0 where
   pub slots : length text ≡ length words
   pub does : AreFlatsOf text flats
   pub behind : tools_at ≡ tool_at (record { at = text_at; words = words })
-  pub room : 4 * length tools ≡ TOOL_TEXT_LEN
+  pub room : 4 * length tools ≤ TOOL_TEXT_LEN
   pub used : length uses ≡ length tools
   pub blank : AreBlank tools uses
+  pub unwritten : behind_last ≡ tool 0
+  pub slots_room : TOOL_TEXT_LEN ≤ 4 * slots_to
+  pub uses_room : TOOL_TEXT_LEN ≤ 4 * uses_to
+  pub ends : tools_at + TOOL_TEXT_LEN < 2 ^ 64
 
 abbrev pub code_of : ℕ → List MarkedWord → ℕ → List MarkedWord → List WordUse → Code
 code_of text_at text tools_at tools uses =

@@ -1,15 +1,12 @@
 //! What a store begins with.
 
-ghost use Rattle.std.specs.Prelude.{◌≡◌, ◌<◌, ◌^◌, IfOk, map, replicate};
+ghost use Rattle.std.specs.Prelude.{◌≡◌, ◌<◌, ◌^◌, IfOk, map};
 ghost use Rattle.std.specs.List.{AllByRecursion};
 ghost use Rattle.rv_word.specs.Names.{words_of};
-ghost use Rattle.tramp_spec.specs.Marks.{own, tool};
+ghost use Rattle.tramp_spec.specs.Marks.{own};
 ghost use Rattle.code_store.specs.Operations.{AreFlatsOf};
-ghost use Rattle.code_store.specs.declared.word_use.WordUse.TheVariants.{Unwritten};
 
-use crate::operation::Operation;
 use crate::slot::Slot;
-use crate::word_use::WordUse;
 use pn_types::NoMemory;
 use rv_exec::Flat;
 use rv_word::split_word;
@@ -67,36 +64,4 @@ pub fn flats_of(alloc: Global, slots: &[Slot]) -> Result<Vec<Flat>, NoMemory>
         flats.push(slot.flat())?;
     }
     Ok(flats)
-}
-
-/// Makes slots for `count` words of the tool text to which nothing was put.
-///
-/// # Errors
-///
-/// `NoMemory` if memory runs out.
-pub fn blank_slots(alloc: Global, count: usize) -> Result<Vec<Slot>, NoMemory>
-    ensures { IfOk result (λ slots. slots.items ≡ replicate count (tool 0)) }
-{
-    let blank = MarkedWord::tool(0);
-    let operation = Operation::new(blank);
-    let mut slots = Vec::with_capacity(alloc, count)?;
-    for _ in 0..count {
-        slots.push(Slot::with(blank, operation))?;
-    }
-    Ok(slots)
-}
-
-/// What such words are for.
-///
-/// # Errors
-///
-/// `NoMemory` if memory runs out.
-pub fn blank_uses(alloc: Global, count: usize) -> Result<Vec<WordUse>, NoMemory>
-    ensures { IfOk result (λ uses. uses.items ≡ replicate count Unwritten) }
-{
-    let mut uses = Vec::with_capacity(alloc, count)?;
-    for _ in 0..count {
-        uses.push(WordUse::Unwritten)?;
-    }
-    Ok(uses)
 }

@@ -3,6 +3,7 @@
 #![tactic(auto)]
 
 mod building;
+mod filling;
 mod operation;
 mod slot;
 mod span;

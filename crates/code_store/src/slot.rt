@@ -71,6 +71,19 @@ impl Slot {
         }
     }
 
+    /// The same slot again.
+    pub(crate) fn copy(&self) -> Slot
+        ensures { result ≡ self.now }
+    {
+        Slot {
+            operation: self.operation,
+            word: self.word,
+            mark: self.mark,
+            keeps_inside: self.keeps_inside,
+            enters: self.enters,
+        }
+    }
+
     /// The word with its mark.
     pub(crate) fn word_and_mark(&self) -> (u32, Mark)
         ensures { marked result ≡ self.now }

@@ -1,6 +1,6 @@
 //! The store of the words that harts fetch.
 
-ghost use Rattle.std.specs.Prelude.{◌≡◌, ℕ, false, ◌+◌, ◌-◌, ◌*◌, ◌/◌, ◌<◌, ◌≤◌, ◌^◌, ◌||◌, IfOk, IsTrue, length};
+ghost use Rattle.std.specs.Prelude.{◌≡◌, ℕ, false, true, ◌+◌, ◌-◌, ◌*◌, ◌/◌, ◌<◌, ◌≤◌, ◌^◌, ◌||◌, IfOk, IsTrue, length};
 ghost use Rattle.std.specs.FinMap.{get, insert, remove};
 ghost use Rattle.std.specs.List.{AllByRecursion};
 ghost use Rattle.std.specs.Option.{option_copied, option_map};
@@ -12,7 +12,8 @@ ghost use Rattle.code_store.specs.Operations.{IsFlatAt};
 ghost use Rattle.code_store.specs.Stores.{first_code, marked, IsInToolText};
 ghost use Rattle.code_store.specs.Views.{at_place};
 
-use crate::building::{blank_slots, blank_uses, flats_of, have_32_bits, own_slots, words};
+use crate::building::{flats_of, have_32_bits, own_slots, words};
+use crate::filling::{fill_slots, fill_uses};
 use crate::slot::Slot;
 use crate::span::{Span, place_of};
 use crate::word_use::WordUse;
@@ -31,9 +32,12 @@ pub struct Store {
     text: Span,
     /// The flats of the text's words, apart from their slots, so that the program's words run one after another by these alone.
     flats: Vec<Flat>,
+    /// The words of the tool text up to the last that was put. Behind them is room for the others.
     tool: Span,
-    /// What the words of the tool text are for.
+    /// What these words are for.
     uses: Vec<WordUse>,
+    /// The word of the tool text where nothing was put.
+    blank: Slot,
 }
 
 impl Model for Store {
@@ -44,6 +48,7 @@ impl Model for Store {
 
     ghost coded = { stored_coded };
 
+    ghost use Rattle.std.specs.Prelude.{vec_capacity};
     ghost use Rattle.code_store.specs.Views.{code_of, owners_of, FitTogether};
 
     ghost view = { λ s. record {
@@ -53,7 +58,7 @@ impl Model for Store {
     } };
 
     ghost invariant = { λ s. FitTogether s.words.items s.text.at s.text.slots.items s.flats.items
-        s.tool.at s.tool.slots.items s.uses.items };
+        s.tool.at s.tool.slots.items s.uses.items s.blank (vec_capacity s.tool.slots) (vec_capacity s.uses) };
 }
 
 // By a call of its own: what drops it need not prove the drops of all its parts.
@@ -65,6 +70,7 @@ impl Drop for Store {
             flats: _,
             tool: _,
             uses: _,
+            blank: _,
         } = self;
     }
 }
@@ -101,15 +107,16 @@ impl Store {
         let end = image.text_at + 4 * words.len() as u64;
         let tool = Span {
             at: end.next_multiple_of(4096),
-            slots: blank_slots(alloc, room)?,
+            slots: Vec::with_capacity(alloc, room)?,
         };
-        let uses = blank_uses(alloc, room)?;
+        let uses = Vec::with_capacity(alloc, room)?;
         Ok(Store {
             words,
             text,
             flats,
             tool,
             uses,
+            blank: Slot::new(MarkedWord::tool(0)),
         })
     }
 
@@ -130,9 +137,24 @@ impl Store {
         ensures { option_copied result ≡ fetched_at self.now.program self.now.code pc inside }
     {
         if inside {
-            self.tool.get(pc)
+            self.tool_slot(pc)
         } else {
             self.text.get(pc)
+        }
+    }
+
+    /// The slot of the word of the tool text at an address.
+    #[inline(always)]
+    fn tool_slot(&self, at: u64) -> Option<&Slot>
+        ensures { option_copied result ≡ fetched_at self.now.program self.now.code at true }
+    {
+        let i = place_of(self.tool.at, at);
+        if i < self.tool.slots.len() as u64 {
+            Some(&self.tool.slots[i as usize])
+        } else if i < TOOL_TEXT_LEN / 4 {
+            Some(&self.blank)
+        } else {
+            None
         }
     }
 
@@ -238,6 +260,8 @@ impl Store {
         requires { 4 * place < TOOL_TEXT_LEN }
         ensures { self.new ≡ record self.old { code = insert self.old.code (tool_at self.old.program + 4 * place) word } }
     {
+        fill_slots(&mut self.tool.slots, &self.blank, place + 1);
+        fill_uses(&mut self.uses, place + 1);
         self.tool.slots[place] = Slot::new(word);
         self.uses[place] = self.uses[place].written();
     }
@@ -250,6 +274,8 @@ impl Store {
           owners = insert self.old.owners (tool_at self.old.program + 4 * place) point;
         } }
     {
+        fill_slots(&mut self.tool.slots, &self.blank, place + 1);
+        fill_uses(&mut self.uses, place + 1);
         self.tool.slots[place] = Slot::new(word);
         self.uses[place] = WordUse::Block(point);
     }
@@ -259,6 +285,8 @@ impl Store {
         requires { 4 * place < TOOL_TEXT_LEN }
         ensures { self.new ≡ record self.old { owners = remove self.old.owners (tool_at self.old.program + 4 * place) } }
     {
-        self.uses[place] = self.uses[place].freed();
+        if place < self.uses.len() {
+            self.uses[place] = self.uses[place].freed();
+        }
     }
 }

@@ -1,7 +1,8 @@
 use Rattle.std.proofs.Common.{◌≡◌, ◌+◌, ◌<◌, None, Some, length, get_or, set, sym, ap, subst, ◌∙◌, arith}
 use Rattle.std.specs.Vec.{vec_len, vec_capacity}
-use Rattle.bucket_chains.specs.Entries.{bucket_at, IsFirst}
-use Rattle.bucket_chains.specs.Chained.{IsNextBelow, IsChained, HasRoom}
+use Rattle.bucket_chains.specs.Entries.{IsFirst}
+use Rattle.bucket_chains.specs.Chained.{IsNextBelow, IsChained, HasEnds, HasRoom}
+use Rattle.bucket_chains.specs.declared.chains.TheConstants.{BUCKETS}
 use Rattle.bucket_chains.proofs.Places.{within}
 use Rattle.bucket_chains.proofs.RemovedEntry.{reads}
 use Rattle.bucket_chains.proofs.Removed.{Backward, both, first_leaves, later_leaves, last_leaves, earlier_leaves}
@@ -26,7 +27,7 @@ index_mut-requires-in-None c =
     let place = c.args.place in
     let chained = c.self.invariant.0 in
     let e = reads s b place c.index.result.now c.index-next.result.now c.index-before.result.now chained (omega (arith, c.requires, ap length (ap (λ v. v.buckets) c.self.view_is))) c.index.ensures c.in-Some.is c.index-next.ensures c.index-before.ensures in
-    omega (arith, chained.below place b e.there, chained.first_places)
+    omega (arith, chained.below place b e.there, c.self.invariant.2.firsts (omega (arith, e.within)))
 
 pub index_mut-requires-in-Some-next : goal.index_mut-requires-in-Some-next
 index_mut-requires-in-Some-next c =
@@ -52,7 +53,7 @@ index_mut-requires-in-None-next c =
     let place = c.args.place in
     let chained = c.self.invariant.0 in
     let e = reads s b place c.index.result.now c.index-next.result.now c.index-before.result.now chained (omega (arith, c.requires, ap length (ap (λ v. v.buckets) c.self.view_is))) c.index.ensures c.in-Some.is c.index-next.ensures c.index-before.ensures in
-    let inside : b < length ls = omega (arith, chained.below place b e.there, chained.last_places) in
+    let inside : b < length ls = omega (arith, chained.below place b e.there, c.self.invariant.2.lasts (omega (arith, e.within))) in
     elim c.match-before.branch [
       | in-Some-before w ↦ subst (λ s. b < vec_len s.last) (sym w.self-inside-is) (omega (arith, inside))
       | in-None w ↦ subst (λ s. b < vec_len s.last) (sym w.self-inside-is) (omega (arith, inside))
@@ -70,30 +71,35 @@ invariant_of-self c =
     let place = c.args.place in
     let chained = c.self.invariant.0 in
     let e = reads s b place c.index.result.now c.index-next.result.now c.index-before.result.now chained (omega (arith, c.requires, ap length (ap (λ v. v.buckets) c.self.view_is))) c.index.ensures c.in-Some.is c.index-next.ensures c.index-before.ensures in
+    let firsts : length fs ≡ BUCKETS = omega (arith, c.self.invariant.2.firsts (omega (arith, e.within))) in
     let follows : IsFirst b (place + 1) es (Some c.in-Some-next.next) = subst (IsFirst b (place + 1) es) c.in-Some-next.is e.follows in
     let back : Backward (set es place None) (set ps c.in-Some-next.next (get_or ps place None)) ls = earlier_leaves es b place e.there ns ps fs ls chained c.in-Some-next.next follows in
     elim c.match-before.branch [
       | in-Some-before w ↦
           subst
           (λ s. IsChained s.buckets.items s.next.items (set s.previous.items c.in-Some-next.next c.match-before.before) s.first.items s.last.items
-          × HasRoom (vec_len s.buckets) (vec_capacity s.buckets) (vec_capacity s.next) (vec_capacity s.previous) s.room)
+          × HasRoom (vec_len s.buckets) (vec_capacity s.buckets) (vec_capacity s.next) (vec_capacity s.previous) s.room
+          × HasEnds (vec_len s.buckets) (vec_len s.first) (vec_len s.last) s.room)
           (sym w.self-inside-is) (
             rw w.before-is (rw (sym e.next_is)
                 (both
                 (later_leaves es b place e.there ns ps fs ls chained w.in-Some-before.before (subst (λ r. IsNextBelow b r place es) w.in-Some-before.is e.precedes))
                 (subst (λ r. Backward (set es place None) (set ps c.in-Some-next.next r) ls) (e.before_is ∙ w.in-Some-before.is) back))),
             c.self.invariant.1,
+            c.self.invariant.2,
           )
       | in-None w ↦
           subst
           (λ s. IsChained s.buckets.items s.next.items (set s.previous.items c.in-Some-next.next c.match-before.before) s.first.items s.last.items
-          × HasRoom (vec_len s.buckets) (vec_capacity s.buckets) (vec_capacity s.next) (vec_capacity s.previous) s.room)
+          × HasRoom (vec_len s.buckets) (vec_capacity s.buckets) (vec_capacity s.next) (vec_capacity s.previous) s.room
+          × HasEnds (vec_len s.buckets) (vec_len s.first) (vec_len s.last) s.room)
           (sym w.self-inside-is) (
             rw w.before-is (rw w.in-None.is (rw (sym e.next_is)
                 (both
-                (first_leaves es b place e.there ns ps fs ls chained (subst (λ r. IsNextBelow b r place es) w.in-None.is e.precedes))
+                (first_leaves es b place e.there ns ps fs ls chained firsts (subst (λ r. IsNextBelow b r place es) w.in-None.is e.precedes))
                 (subst (λ r. Backward (set es place None) (set ps c.in-Some-next.next r) ls) (e.before_is ∙ w.in-None.is) back)))),
             c.self.invariant.1,
+            c.self.invariant.2,
           )
     ]
 
@@ -109,29 +115,35 @@ invariant_of-self-in-None-next c =
     let place = c.args.place in
     let chained = c.self.invariant.0 in
     let e = reads s b place c.index.result.now c.index-next.result.now c.index-before.result.now chained (omega (arith, c.requires, ap length (ap (λ v. v.buckets) c.self.view_is))) c.index.ensures c.in-Some.is c.index-next.ensures c.index-before.ensures in
+    let firsts : length fs ≡ BUCKETS = omega (arith, c.self.invariant.2.firsts (omega (arith, e.within))) in
+    let lasts : length ls ≡ BUCKETS = omega (arith, c.self.invariant.2.lasts (omega (arith, e.within))) in
     let follows : IsFirst b (place + 1) es None = subst (IsFirst b (place + 1) es) c.in-None-next.is e.follows in
-    let back : Backward (set es place None) ps (set ls b (get_or ps place None)) = last_leaves es b place e.there ns ps fs ls chained follows in
+    let back : Backward (set es place None) ps (set ls b (get_or ps place None)) = last_leaves es b place e.there ns ps fs ls chained lasts follows in
     elim c.match-before.branch [
       | in-Some-before w ↦
           subst
           (λ s. IsChained s.buckets.items s.next.items s.previous.items s.first.items (set s.last.items b c.match-before.before)
-          × HasRoom (vec_len s.buckets) (vec_capacity s.buckets) (vec_capacity s.next) (vec_capacity s.previous) s.room)
+          × HasRoom (vec_len s.buckets) (vec_capacity s.buckets) (vec_capacity s.next) (vec_capacity s.previous) s.room
+          × HasEnds (vec_len s.buckets) (vec_len s.first) (vec_len s.last) s.room)
           (sym w.self-inside-is) (
             rw w.before-is (rw (sym e.next_is)
                 (both
                 (later_leaves es b place e.there ns ps fs ls chained w.in-Some-before.before (subst (λ r. IsNextBelow b r place es) w.in-Some-before.is e.precedes))
                 (subst (λ r. Backward (set es place None) ps (set ls b r)) (e.before_is ∙ w.in-Some-before.is) back))),
             c.self.invariant.1,
+            c.self.invariant.2,
           )
       | in-None w ↦
           subst
           (λ s. IsChained s.buckets.items s.next.items s.previous.items s.first.items (set s.last.items b c.match-before.before)
-          × HasRoom (vec_len s.buckets) (vec_capacity s.buckets) (vec_capacity s.next) (vec_capacity s.previous) s.room)
+          × HasRoom (vec_len s.buckets) (vec_capacity s.buckets) (vec_capacity s.next) (vec_capacity s.previous) s.room
+          × HasEnds (vec_len s.buckets) (vec_len s.first) (vec_len s.last) s.room)
           (sym w.self-inside-is) (
             rw w.before-is (rw w.in-None.is (rw (sym e.next_is)
                 (both
-                (first_leaves es b place e.there ns ps fs ls chained (subst (λ r. IsNextBelow b r place es) w.in-None.is e.precedes))
+                (first_leaves es b place e.there ns ps fs ls chained firsts (subst (λ r. IsNextBelow b r place es) w.in-None.is e.precedes))
                 (subst (λ r. Backward (set es place None) ps (set ls b r)) (e.before_is ∙ w.in-None.is) back)))),
             c.self.invariant.1,
+            c.self.invariant.2,
           )
     ]

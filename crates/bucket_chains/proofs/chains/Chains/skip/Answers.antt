@@ -1,4 +1,4 @@
-use Rattle.std.proofs.Common.{arith}
+use Rattle.std.proofs.Common.{ap, arith}
 use Rattle.bucket_chains.proofs.Pushed.{skipped}
 use Rattle.bucket_chains.proofs.chains.Chains.skip.Goals as goal
 
@@ -9,5 +9,9 @@ invariant_of-self c = (
     buckets = omega (arith, c.self.invariant.1.buckets, c.requires, c.push_reserved.ensures.len, c.push_reserved.ensures.capacity);
     nexts = omega (arith, c.self.invariant.1.nexts, c.requires, c.push_reserved.ensures.len, c.push_reserved-2.ensures.capacity);
     befores = omega (arith, c.self.invariant.1.befores, c.requires, c.push_reserved.ensures.len, c.push_reserved-3.ensures.capacity);
+  },
+  record {
+    firsts = λ _. c.self.invariant.2.firsts (omega (arith, c.requires, ap (λ v. v.room) c.self.view_is));
+    lasts = λ _. c.self.invariant.2.lasts (omega (arith, c.requires, ap (λ v. v.room) c.self.view_is));
   },
 )

@@ -37,4 +37,8 @@ invariant_of-self c =
       room = i.room;
       used = i.used;
       blank = i.blank;
+      unwritten = i.unwritten;
+      slots_room = i.slots_room;
+      uses_room = i.uses_room;
+      ends = i.ends;
     }

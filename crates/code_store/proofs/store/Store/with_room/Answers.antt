@@ -1,13 +1,12 @@
-use Rattle.std.proofs.Common.{◌≡◌, ◌+◌, ◌*◌, ◌/◌, ◌∙◌, sym, ap, subst, length, replicate, map, arith, List, ℕ}
-use Rattle.std.proofs.lemmas.List.{length-replicate, length-map}
+use Rattle.std.proofs.Common.{◌≡◌, ◌+◌, ◌*◌, ◌/◌, ◌∙◌, sym, ap, subst, length, map, arith, List, [], ℕ}
+use Rattle.std.proofs.lemmas.List.{length-map}
 use Rattle.rv_word.specs.Names.{words_of}
 use Rattle.tramp_spec.specs.declared.mark.MarkedWord.{MarkedWord}
-use Rattle.tramp_spec.specs.Marks.{own, tool}
+use Rattle.tramp_spec.specs.Marks.{own}
 use Rattle.code_store.specs.declared.word_use.WordUse.{WordUse}
-use Rattle.code_store.specs.declared.word_use.WordUse.TheVariants.{Unwritten}
 use Rattle.code_store.specs.Operations.{AreFlatsOf}
 use Rattle.code_store.specs.Views.{AreBlank, code_of, owners_of}
-use Rattle.code_store.proofs.Beginnings.{words_end, blank-first, code-first, owners-first, stored_first}
+use Rattle.code_store.proofs.Beginnings.{words_end, code-first, stored_first}
 use Rattle.code_store.proofs.Maps.{same_stored}
 use Rattle.code_store.proofs.store.Store.with_room.Goals as goal
 
@@ -30,26 +29,29 @@ invariant_of-text c =
 pub invariant_of-tool : goal.invariant_of-tool
 invariant_of-tool c =
     let end = words_end c.args.image.now c.in_ok-words.words.items c.requires.image (c.in_ok-words.ensures ∙ ap words_of c.text_bytes.ensures) in
-    let room = ap length c.in_ok-blank_slots.ensures ∙ length-replicate {A = MarkedWord} c.args.room (tool 0) in
-    let all = c.requires.room in
+    let none = ap length c.in_ok-with_capacity.ensures.items in
     record { ends = omega arith }
 
 pub invariant_of-result : goal.invariant_of-result
 invariant_of-result c =
-    let blank = ap length c.in_ok-blank_slots.ensures ∙ length-replicate {A = MarkedWord} c.args.room (tool 0) in
+    let end = words_end c.args.image.now c.in_ok-words.words.items c.requires.image (c.in_ok-words.ensures ∙ ap words_of c.text_bytes.ensures) in
+    let none = ap length c.in_ok-with_capacity.ensures.items in
     let count : c.len.result ≡ length c.in_ok-words.words.items = omega arith in
     let low = c.next_multiple_of.ensures.lower_bound in
     let high = c.next_multiple_of.ensures.upper_bound in
     let multiple = c.next_multiple_of.ensures.multiple in
     let behind : c.next_multiple_of.result ≡ (c.args.image.now.text_at + 4 * length c.in_ok-words.words.items + 4095) / 4096 * 4096 = omega arith in
-    let uses = ap length c.in_ok-uses.ensures ∙ length-replicate {A = WordUse} c.args.room Unwritten in
     record {
       slots = ap length c.in_ok-own_slots.ensures ∙ length-map c.deref-2.result.now own ∙ ap length c.deref-2.ensures.value;
       does = subst (λ (ws : List MarkedWord). AreFlatsOf ws c.in_ok-flats.flats.items) c.deref-3.ensures.value c.in_ok-flats.ensures;
       behind = behind;
-      room = ap (λ n. 4 * n) blank ∙ c.requires.room;
-      used = uses ∙ sym blank;
-      blank = subst (λ (ws : List MarkedWord). AreBlank ws c.in_ok-uses.uses.items) (sym c.in_ok-blank_slots.ensures) (subst (λ (us : List WordUse). AreBlank (replicate c.args.room (tool 0)) us) (sym c.in_ok-uses.ensures) (blank-first c.args.room));
+      room = omega (arith, none);
+      used = ap length c.in_ok-uses.ensures.items ∙ sym none;
+      blank = subst (λ (ws : List MarkedWord). AreBlank ws c.in_ok-uses.uses.items) (sym c.in_ok-with_capacity.ensures.items) tt;
+      unwritten = c.new.ensures ∙ c.tool.ensures;
+      slots_room = omega (arith, c.in_ok-with_capacity.ensures.capacity, c.requires.room);
+      uses_room = omega (arith, c.in_ok-uses.ensures.capacity, c.requires.room);
+      ends = omega (arith, behind, end);
     }
 
 pub returns-clause-first : goal.returns-clause-first
@@ -60,9 +62,9 @@ returns-clause-first c =
     let own_words = c.in_ok-own_slots.ensures ∙ ap (map own) c.deref-2.ensures.value in
     let read = c.in_ok-words.ensures ∙ ap words_of c.text_bytes.ensures in
     same_stored (record { at = image.text_at; words = ws }) _ _ _ _
-    (ap (λ (t : List MarkedWord). code_of image.text_at t at c.in_ok-blank_slots.field-0.items c.in_ok-uses.uses.items) own_words
-    ∙ ap (λ (t : List MarkedWord). code_of image.text_at (map own ws) at t c.in_ok-uses.uses.items) c.in_ok-blank_slots.ensures
-    ∙ ap (λ (u : List WordUse). code_of image.text_at (map own ws) at (replicate c.args.room (tool 0)) u) c.in_ok-uses.ensures
-    ∙ code-first ws image.text_at at c.args.room)
-    (ap (λ (u : List WordUse). owners_of at u) c.in_ok-uses.ensures ∙ owners-first c.args.room at)
+    (ap (λ (t : List MarkedWord). code_of image.text_at t at c.in_ok-with_capacity.field-0.items c.in_ok-uses.uses.items) own_words
+    ∙ ap (λ (t : List MarkedWord). code_of image.text_at (map own ws) at t c.in_ok-uses.uses.items) c.in_ok-with_capacity.ensures.items
+    ∙ ap (λ (u : List WordUse). code_of image.text_at (map own ws) at [] u) c.in_ok-uses.ensures.items
+    ∙ code-first ws image.text_at at)
+    (ap (λ (u : List WordUse). owners_of at u) c.in_ok-uses.ensures.items)
     ∙ ap (λ (words : List ℕ). stored_first image.text_at words) read
