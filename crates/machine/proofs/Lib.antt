@@ -58,5 +58,4 @@ pub mod Calls
 pub mod Inside
 pub mod SlotLists
 pub mod LinkedSites
-pub mod IllegalStops
 pub mod Stretches

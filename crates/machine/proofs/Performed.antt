@@ -6,7 +6,7 @@ use Rattle.rv_word.specs.Table.{decode_of}
 use Rattle.rv_word.specs.Words.{HasWord}
 use Rattle.rv_word.specs.declared.instr.Instr.{Instr}
 use Rattle.rv_word.specs.declared.outcome.Cause.{Cause}
-use Rattle.rv_exec.specs.Flat.{instr_of}
+use Rattle.rv_exec.specs.Flat.{IsFlatOf}
 use Rattle.rv_exec.specs.Gives.{next_after}
 use Rattle.rv_exec.specs.declared.flat.Flat.{Flat}
 use Rattle.tramp_spec.specs.Banks.{bank_len}
@@ -20,14 +20,16 @@ use Rattle.machine.specs.Performing.{Performs, PerformsBy, PerformsOther, stood_
 
 -- ---- the numbers of an operation fit
 
-run_fits_by : (m : Mark) (i : Option Instr) (flat : Flat) → IsOperationBy m i (Run flat) → (instr_of flat ≡ i) × IfSome i HasWord
-run_fits_by Own i flat o = o
-run_fits_by Enter i flat o = (o.0, o.1)
-run_fits_by Tool i flat o = (o.0, o.1)
-run_fits_by Leave i flat o = (o.0, o.1)
+run_fits_by : (m : Mark) (i : Option Instr) (flat : Flat) (j : Option Instr) → IsOperationBy m i (Run flat j) → IsFlatOf i flat × (j ≡ i) × IfSome i HasWord
+run_fits_by Own i flat j o = o
+run_fits_by Enter i flat j o = (o.0, o.1, o.2)
+run_fits_by Tool i flat j o = (o.0, o.1, o.2)
+run_fits_by Leave i flat j o = (o.0, o.1, o.2)
 
-pub run_fits : (w : MarkedWord) (flat : Flat) → IsOperationOf w (Run flat) → IfSome (instr_of flat) HasWord
-run_fits w flat o = let f = run_fits_by w.mark (decode_of w.word) flat o in subst (λ i. IfSome i HasWord) (sym f.0) f.1
+pub run_fits : (w : MarkedWord) (flat : Flat) (j : Option Instr) → IsOperationOf w (Run flat j) → IsFlatOf j flat × IfSome j HasWord
+run_fits w flat j o =
+    let f = run_fits_by w.mark (decode_of w.word) flat j o in
+    (subst (λ i. IsFlatOf i flat) (sym f.1) f.0, subst (λ i. IfSome i HasWord) (sym f.1) f.2)
 
 load_fits_by : (m : Mark) (i : Option Instr) (rd rs1 offset : ℕ) → IsOperationBy m i (LoadBank rd rs1 offset) → (rd < 32) × (rs1 < 32)
 load_fits_by Own i rd rs1 offset o = absurd o
@@ -67,29 +69,29 @@ stood_is : (stop : Option Cause) (pc : ℕ) (regs bank : List ℕ) → stands_as
 stood_is None pc regs bank = refl
 stood_is (Some cause) pc regs bank = refl
 
-runs_other : (n word : ℕ) (flat : Flat) (h : ℕ) (x z : Solo) → Does n (decode_of word) (Run flat) → z.hart.bank ≡ x.hart.bank
+runs_other : (n word : ℕ) (flat : Flat) (j : Option Instr) (h : ℕ) (x z : Solo) → Does n (decode_of word) (Run flat j) → z.hart.bank ≡ x.hart.bank
     → done_of_outcome (exec_of word x.hart.pc h x.hart.regs x.prog) x.hart.regs ≡ record { next = next_after z.hart.stop z.hart.pc; regs = z.hart.regs; prog = z.prog }
     → PerformsOther n word x z
-runs_other n word flat h x z o same e =
+runs_other n word flat j h x z o same e =
     record {
-      step = o.2.step h x.hart.ticks x.hart.pc (bench_in x.hart) x.prog
+      step = o.3.step h x.hart.ticks x.hart.pc (bench_in x.hart) x.prog
           ∙ (ap (λ (d : Done). done_as d x.hart.bank) e ∙ (stood_is z.hart.stop z.hart.pc z.hart.regs x.hart.bank
           ∙ ap (λ b. stood_after z.hart.stop z.hart.pc (bench_from z.hart.regs b)) (sym same)));
-      shares = sym (ap (λ (d : Done). d.prog) e) ∙ o.2.prog h x.hart.pc x.hart.regs x.prog;
+      shares = sym (ap (λ (d : Done). d.prog) e) ∙ o.3.prog h x.hart.pc x.hart.regs x.prog;
       stays = ⊎_elim inl (λ regs. inr (regs, same)) (left_at_stop (exec_of word x.hart.pc h x.hart.regs x.prog) x.hart.regs z.hart.stop z.hart.pc z.hart.regs z.prog e);
     }
 
-runs_by : (m : Mark) (word : ℕ) (flat : Flat) (h : ℕ) (x z : Solo) → IsOperationBy m (decode_of word) (Run flat) → z.hart.bank ≡ x.hart.bank
+runs_by : (m : Mark) (word : ℕ) (flat : Flat) (j : Option Instr) (h : ℕ) (x z : Solo) → IsOperationBy m (decode_of word) (Run flat j) → z.hart.bank ≡ x.hart.bank
     → done_of_outcome (exec_of word x.hart.pc h x.hart.regs x.prog) x.hart.regs ≡ record { next = next_after z.hart.stop z.hart.pc; regs = z.hart.regs; prog = z.prog }
     → PerformsBy m word h x z
-runs_by Own word flat h x z o same e = record { does = e; keeps = same }
-runs_by Enter word flat h x z o same e = runs_other 0 word flat h x z o same e
-runs_by Tool word flat h x z o same e = runs_other bank_len word flat h x z o same e
-runs_by Leave word flat h x z o same e = runs_other 0 word flat h x z o same e
+runs_by Own word flat j h x z o same e = record { does = e; keeps = same }
+runs_by Enter word flat j h x z o same e = runs_other 0 word flat j h x z o same e
+runs_by Tool word flat j h x z o same e = runs_other bank_len word flat j h x z o same e
+runs_by Leave word flat j h x z o same e = runs_other 0 word flat j h x z o same e
 
-pub runs : (w : MarkedWord) (flat : Flat) (h : ℕ) (x z : Solo) → IsOperationOf w (Run flat) → z.hart.bank ≡ x.hart.bank
-    → done_of_outcome (exec_decoded (instr_of flat) x.hart.pc h x.hart.regs x.prog) x.hart.regs ≡ record { next = next_after z.hart.stop z.hart.pc; regs = z.hart.regs; prog = z.prog }
+pub runs : (w : MarkedWord) (flat : Flat) (j : Option Instr) (h : ℕ) (x z : Solo) → IsOperationOf w (Run flat j) → z.hart.bank ≡ x.hart.bank
+    → done_of_outcome (exec_decoded j x.hart.pc h x.hart.regs x.prog) x.hart.regs ≡ record { next = next_after z.hart.stop z.hart.pc; regs = z.hart.regs; prog = z.prog }
     → Performs w h x z
-runs w flat h x z o same e =
-    let i = (run_fits_by w.mark (decode_of w.word) flat o).0 in
-    runs_by w.mark w.word flat h x z o same (ap (λ j. done_of_outcome (exec_decoded j x.hart.pc h x.hart.regs x.prog) x.hart.regs) (sym i) ∙ e)
+runs w flat j h x z o same e =
+    let i = (run_fits_by w.mark (decode_of w.word) flat j o).1 in
+    runs_by w.mark w.word flat j h x z o same (ap (λ k. done_of_outcome (exec_decoded k x.hart.pc h x.hart.regs x.prog) x.hart.regs) (sym i) ∙ e)

@@ -1,15 +1,14 @@
 -- Words of the program that a hart runs one after another.
-use Rattle.std.proofs.Common.{◌≡◌, ℕ, zero, suc, ◌+◌, ◌<◌, ◌≤◌, arith, inr, List, Option, Some, None, refl, sym, ap, ◌∙◌, subst, IfSome}
-use Rattle.std.specs.Prelude.{is_none, false, IsTrue}
+use Rattle.std.proofs.Common.{◌≡◌, ℕ, zero, suc, ◌+◌, ◌<◌, ◌≤◌, arith, inr, List, Option, Some, None, refl, sym, ap, ◌∙◌, subst, ◌*◌, ◌^◌, length, get_or}
+use Rattle.std.specs.Prelude.{false, IsTrue}
 use Rattle.std.proofs.lemmas.Grind.{common_steps}
-use Rattle.rv_word.specs.Exec.{Prog, Outcome, Stops, Goes, Done, done_of_outcome, exec_decoded, exec_of}
+use Rattle.rv_word.specs.Exec.{Prog, Outcome, Stops, Goes, done_of_outcome, exec_decoded, exec_of}
 use Rattle.rv_word.specs.Table.{decode_of}
-use Rattle.rv_word.specs.Words.{HasWord}
+use Rattle.rv_word.specs.Values.{wrap}
 use Rattle.rv_word.specs.declared.instr.Instr.{Instr}
 use Rattle.rv_word.specs.declared.outcome.Cause.{Cause}
-use Rattle.rv_word.specs.declared.outcome.Cause.TheVariants.{Illegal}
-use Rattle.rv_exec.specs.Flat.{instr_of}
-use Rattle.rv_exec.specs.Gives.{next_after}
+use Rattle.rv_exec.specs.Flat.{instr_of, CanRun}
+use Rattle.rv_exec.proofs.Flats.{goes_as}
 use Rattle.rv_exec.specs.declared.flat.Flat.{Flat}
 use Rattle.tramp_spec.specs.Codes.{fetched_at}
 use Rattle.tramp_spec.specs.Harts.{Hart, Solo, own_step, marked_step, step_of}
@@ -18,87 +17,65 @@ use Rattle.tramp_spec.specs.declared.mark.Mark.TheVariants.{Own, Enter, Tool, Le
 use Rattle.tramp_spec.specs.declared.mark.MarkedWord.{MarkedWord}
 use Rattle.code_store.specs.Operations.{IsFlatAt, IsFlatBy}
 use Rattle.code_store.specs.Stores.{StoredCode}
+use Rattle.code_store.specs.Views.{at_place}
+use Rattle.code_store.proofs.Flats.{at_there}
 use Rattle.machine.specs.Alone.{alone_of, may_alone, turned_alone, TurnsLead}
 use Rattle.machine.specs.declared.turning.Progress.{Progress}
 use Rattle.machine.proofs.Alone.{alone_may}
-use Rattle.machine.proofs.IllegalStops.{KeepsIfIllegal, decoded_keeps}
 use Rattle.machine.specs.Stretches.{Left, left_as, ran, HasOwn, AreRun}
 
 -- where a hart is
 abbrev pub left : ℕ → Option Cause → List ℕ → Prog → Left
 left pc stop regs p = record { pc = pc; stop = stop; regs = regs; prog = p }
 
--- what the instruction at an address left
-abbrev Leaves : ℕ → Option Instr → ℕ → List ℕ → Prog → Option Cause → ℕ → List ℕ → Prog → Type 0
-Leaves h i at regs p stop pc new_regs new_p = done_of_outcome (exec_decoded i at h regs p) regs ≡ record { next = next_after stop pc; regs = new_regs; prog = new_p }
-
--- ---- one word
-
-pub goes : (h : ℕ) (i : Option Instr) (at : ℕ) (regs : List ℕ) (p : Prog) (stop : Option Cause) (pc : ℕ) (new_regs : List ℕ) (new_p : Prog) → Leaves h i at regs p stop pc new_regs new_p → stop ≡ None → left pc stop new_regs new_p ≡ ran h i at regs p
-goes h i at regs p None pc new_regs new_p e none = sym (ap (λ d. left_as d at) e)
-goes h i at regs p (Some cause) pc new_regs new_p e none = absurd cc
-
-pub stops : (h : ℕ) (i : Option Instr) (at : ℕ) (regs : List ℕ) (p : Prog) (stop : Option Cause) (pc : ℕ) (new_regs : List ℕ) (new_p : Prog) → Leaves h i at regs p stop pc new_regs new_p → is_none stop ≡ false → left at stop new_regs new_p ≡ ran h i at regs p
-stops h i at regs p None pc new_regs new_p e none = absurd cc
-stops h i at regs p (Some cause) pc new_regs new_p e none = sym (ap (λ d. left_as d at) e)
-
-stopped_by : (o : Outcome) (regs : List ℕ) (p : Prog) (pc : ℕ) (new_regs : List ℕ) (new_p : Prog) → KeepsIfIllegal p o → done_of_outcome o regs ≡ record { next = next_after (Some Illegal) pc; regs = new_regs; prog = new_p } → (new_regs ≡ regs) × (new_p ≡ p)
-stopped_by (Stops why q) regs p pc new_regs new_p keeps e =
-    let illegal : why ≡ Illegal = let stop = ap (λ (d : Done). d.next) e in cc in
-    (sym (ap (λ (d : Done). d.regs) e), sym (ap (λ (d : Done). d.prog) e) ∙ keeps illegal)
-stopped_by (Goes at others q) regs p pc new_regs new_p keeps e = let no = ap (λ (d : Done). d.next) e in absurd cc
-
--- so a stop as illegal that is taken back left nothing
-pub taken_back : (h : ℕ) (i : Option Instr) (at : ℕ) (regs : List ℕ) (p : Prog) (stop : Option Cause) (pc : ℕ) (new_regs : List ℕ) (new_p : Prog) → Leaves h i at regs p stop pc new_regs new_p → stop ≡ Some Illegal → left at None new_regs new_p ≡ left at None regs p
-taken_back h i at regs p stop pc new_regs new_p e illegal =
-    let stops_so = subst (λ o. Leaves h i at regs p o pc new_regs new_p) illegal e in
-    let same = stopped_by (exec_decoded i at h regs p) regs p pc new_regs new_p (decoded_keeps h i at regs p) stops_so in
-    ap (λ r. left at None r new_p) same.0 ∙ ap (left at None regs) same.1
-
 -- ---- a word of the list of flats
 
--- no instruction stops as illegal
-not_illegal : (h : ℕ) (i : Option Instr) (at : ℕ) (regs : List ℕ) (p : Prog) (stop : Option Cause) (pc : ℕ) (new_regs : List ℕ) (new_p : Prog) → i ≡ None → Leaves h i at regs p stop pc new_regs new_p → stop ≡ Some Illegal
-not_illegal h None at regs p None pc new_regs new_p none e = let next = ap (λ (d : Done). d.next) e in absurd cc
-not_illegal h None at regs p (Some cause) pc new_regs new_p none e = let next = ap (λ (d : Done). d.next) e in cc
-not_illegal h (Some i) at regs p stop pc new_regs new_p none e = absurd cc
+-- what the word does in the program, where its instruction lets the hart go on
+does_so : (h : ℕ) (i : Option Instr) (at : ℕ) (regs : List ℕ) (p : Prog) (pc : ℕ) (new_regs : List ℕ) (new_p : Prog) → exec_decoded i at h regs p ≡ Goes pc new_regs new_p → left pc None new_regs new_p ≡ ran h i at regs p
+does_so h i at regs p pc new_regs new_p e = sym (ap (λ o. left_as (done_of_outcome o regs) at) e)
 
-own_by : (m : Mark) (j : Option Instr) (flat : Flat) → IsFlatBy m j flat → (instr_of flat ≡ None → ⊥) → (m ≡ Own) × (j ≡ instr_of flat)
-own_by Own j flat is some = (refl, sym is.0)
-own_by Enter j flat is some = absurd (some is)
-own_by Tool j flat is some = absurd (some is)
-own_by Leave j flat is some = absurd (some is)
+no_word_goes : (h : ℕ) (i : Option Instr) (at : ℕ) (regs : List ℕ) (p : Prog) (pc : ℕ) (new_regs : List ℕ) (new_p : Prog) → i ≡ None → exec_decoded i at h regs p ≡ Goes pc new_regs new_p → ⊥
+no_word_goes h None at regs p pc new_regs new_p none e = cc
+no_word_goes h (Some i) at regs p pc new_regs new_p none e = cc
 
--- a word that isn't stopped as illegal is one of the program
-pub own_word : (w : Option MarkedWord) (flat : Flat) (h at : ℕ) (regs : List ℕ) (p : Prog) (stop : Option Cause) (pc : ℕ) (new_regs : List ℕ) (new_p : Prog) → IsFlatAt w (Some flat) → Leaves h (instr_of flat) at regs p stop pc new_regs new_p → (stop ≡ Some Illegal → ⊥)
-    → HasOwn w (λ j. j ≡ instr_of flat)
-own_word None flat h at regs p stop pc new_regs new_p is e legal = absurd is
-own_word (Some w) flat h at regs p stop pc new_regs new_p is e legal = own_by w.mark (decode_of w.word) flat is (λ no. legal (not_illegal h (instr_of flat) at regs p stop pc new_regs new_p no e))
+own_by : (m : Mark) (j : Option Instr) (flat : Flat) (h at : ℕ) (regs : List ℕ) (p : Prog) (pc : ℕ) (new_regs : List ℕ) (new_p : Prog) → IsFlatBy m j flat → exec_decoded (instr_of flat) at h regs p ≡ Goes pc new_regs new_p → (m ≡ Own) × (left pc None new_regs new_p ≡ ran h j at regs p)
+own_by Own j flat h at regs p pc new_regs new_p is e = (refl, does_so h j at regs p pc new_regs new_p (goes_as flat j at h regs p pc new_regs new_p is e))
+own_by Enter j flat h at regs p pc new_regs new_p is e = absurd (no_word_goes h (instr_of flat) at regs p pc new_regs new_p is.0 e)
+own_by Tool j flat h at regs p pc new_regs new_p is e = absurd (no_word_goes h (instr_of flat) at regs p pc new_regs new_p is.0 e)
+own_by Leave j flat h at regs p pc new_regs new_p is e = absurd (no_word_goes h (instr_of flat) at regs p pc new_regs new_p is.0 e)
 
-fits_by : (m : Mark) (j : Option Instr) (flat : Flat) → IsFlatBy m j flat → IfSome (instr_of flat) HasWord
-fits_by Own j flat is = subst (λ i. IfSome i HasWord) (sym is.0) is.1
-fits_by Enter j flat is = subst (λ i. IfSome i HasWord) (sym is) tt
-fits_by Tool j flat is = subst (λ i. IfSome i HasWord) (sym is) tt
-fits_by Leave j flat is = subst (λ i. IfSome i HasWord) (sym is) tt
+-- a word after which the hart goes on by the list is one of the program
+pub own_word : (w : Option MarkedWord) (flat : Flat) (h at : ℕ) (regs : List ℕ) (p : Prog) (pc : ℕ) (new_regs : List ℕ) (new_p : Prog) → IsFlatAt w (Some flat) → exec_decoded (instr_of flat) at h regs p ≡ Goes pc new_regs new_p
+    → HasOwn w (λ j. left pc None new_regs new_p ≡ ran h j at regs p)
+own_word None flat h at regs p pc new_regs new_p is e = absurd is
+own_word (Some w) flat h at regs p pc new_regs new_p is e = own_by w.mark (decode_of w.word) flat h at regs p pc new_regs new_p is e
+
+fits_by : (m : Mark) (j : Option Instr) (flat : Flat) → IsFlatBy m j flat → CanRun flat
+fits_by Own j flat is = is.can_run
+fits_by Enter j flat is = is.1
+fits_by Tool j flat is = is.1
+fits_by Leave j flat is = is.1
 
 -- its numbers fit
-pub fits : (w : Option MarkedWord) (flat : Flat) → IsFlatAt w (Some flat) → IfSome (instr_of flat) HasWord
+pub fits : (w : Option MarkedWord) (flat : Flat) → IsFlatAt w (Some flat) → CanRun flat
 fits None flat is = absurd is
 fits (Some w) flat is = fits_by w.mark (decode_of w.word) flat is
 
+-- what is fetched at a place of the list
+pub flat_there : (s : StoredCode) (first : ℕ) (flats : List Flat) (at place : ℕ) (d : Flat) → ((q : ℕ) → IsFlatAt (fetched_at s.program s.code q false) (at_place first flats q)) → first + 4 * length flats < 2 ^ 64 → place < length flats → at ≡ wrap (first + 4 * place)
+    → IsFlatAt (fetched_at s.program s.code at false) (Some (get_or flats place d))
+flat_there s first flats at place d all ends below here =
+    let e : at ≡ first + 4 * place = omega (arith, here) in
+    subst (λ o. IsFlatAt (fetched_at s.program s.code at false) o) (sym (at_there first flats at place d below e)) (all at)
+
 -- ---- one word after another
 
-run_own : (s : StoredCode) (h n : ℕ) (w : Option MarkedWord) (i : Option Instr) (x z : Left) → HasOwn w (λ j. j ≡ i) → AreRun s h n (ran h i x.pc x.regs x.prog) z → HasOwn w (λ j. AreRun s h n (ran h j x.pc x.regs x.prog) z)
-run_own s h n None i x z own r = absurd own
-run_own s h n (Some w) i x z own r = (own.0, subst (λ j. AreRun s h n (ran h j x.pc x.regs x.prog) z) (sym own.1) r)
-
 -- one word more
-pub run_more : (s : StoredCode) (h n : ℕ) (x y z : Left) (i : Option Instr) → AreRun s h n x y → y.stop ≡ None → HasOwn (fetched_at s.program s.code y.pc false) (λ j. j ≡ i) → z ≡ ran h i y.pc y.regs y.prog → AreRun s h (n + 1) x z
-run_more s h zero x y z i r none own e =
-    subst (λ v. AreRun s h 1 v z) r (none, run_own s h 0 (fetched_at s.program s.code y.pc false) i y z own e)
-run_more s h (suc n) x y z i r none own e =
+pub run_more : (s : StoredCode) (h n : ℕ) (x y z : Left) → AreRun s h n x y → y.stop ≡ None → HasOwn (fetched_at s.program s.code y.pc false) (λ j. z ≡ ran h j y.pc y.regs y.prog) → AreRun s h (n + 1) x z
+run_more s h zero x y z r none own = subst (λ v. AreRun s h 1 v z) r (none, own)
+run_more s h (suc n) x y z r none own =
     let count : suc (n + 1) ≡ suc n + 1 = omega arith in
-    subst (λ k. AreRun s h k x z) count (r.0, on (fetched_at s.program s.code x.pc false) (λ j o. run_more s h n (ran h j x.pc x.regs x.prog) y z i o none own e) r.1)
+    subst (λ k. AreRun s h k x z) count (r.0, on (fetched_at s.program s.code x.pc false) (λ j o. run_more s h n (ran h j x.pc x.regs x.prog) y z o none own) r.1)
   where
     on : (w : Option MarkedWord) → ((j : Option Instr) → AreRun s h n (ran h j x.pc x.regs x.prog) y → AreRun s h (n + 1) (ran h j x.pc x.regs x.prog) z) → HasOwn w (λ j. AreRun s h n (ran h j x.pc x.regs x.prog) y) → HasOwn w (λ j. AreRun s h (n + 1) (ran h j x.pc x.regs x.prog) z)
     on None more o = absurd o

@@ -11,7 +11,7 @@ use crate::hart::HartState;
 use crate::turning::Progress;
 use code_store::{Operation, Slot};
 use pn_types::HartNo;
-use rv_exec::{Caller, Regs, Shared};
+use rv_exec::{Caller, Regs, Shared, run_or_execute};
 use rv_word::Cause;
 
 /// A word by itself.
@@ -123,9 +123,9 @@ pub fn perform(
         (alone_of progress.new hart.new (prog_in shared.new)) }
 {
     match slot.operation() {
-        Operation::Run(flat) => {
-            let pc = &mut progress.pc;
-            flat.run::<Alone>(number, pc, &mut hart.stop, &mut hart.regs, shared)
+        Operation::Run { flat, instr } => {
+            let (pc, stop, regs) = (&mut progress.pc, &mut hart.stop, &mut hart.regs);
+            run_or_execute::<Alone>(flat, *instr, number, pc, stop, regs, shared)
         }
         Operation::LoadBank { rd, rs1, offset } => {
             let at = hart.regs.get(*rs1).wrapping_add(*offset);

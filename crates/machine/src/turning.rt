@@ -95,15 +95,7 @@ fn take_words(
     }
     let words = (budget - progress.ticks).min(most as u64) as u32;
     let pc = &mut progress.pc;
-    let turns = run_words(
-        words,
-        number,
-        pc,
-        &mut hart.stop,
-        &mut hart.regs,
-        store,
-        shared,
-    );
+    let turns = run_words(words, number, pc, &mut hart.regs, store, shared);
     progress.ticks += turns as u64;
     turns
 }

@@ -17,7 +17,7 @@ returns-clause-leads c =
     let t = c.run_words-turns.new in
     let n = c.run_words-turns.result in
     let q = prog_in t.shared in
-    let y : Hart = the_view (record i { stop = t.stop; regs = t.regs }) in
+    let y : Hart = the_view (record i { regs = t.regs }) in
     let outside = c.if-progress.false in
     let may = subst (λ (h : Hart). IsTrue (may_alone c.args.budget (alone_of a h p))) (sym c.hart.view_is) c.requires.may in
     let open_here = outside_below a x p c.args.budget may in
@@ -28,9 +28,11 @@ returns-clause-leads c =
     let begins : left_standing a.ticks x.bank (left a.pc None x.regs p) ≡ alone_of a x p =
     ap (λ o. alone_of (record { pc = a.pc; ticks = a.ticks; inside = false }) (record x { stop = o }) p) (sym open_here.0)
     ∙ ap (λ b. alone_of (record { pc = a.pc; ticks = a.ticks; inside = b }) x p) (sym outside) in
-    let ends = ap (λ b. alone_of (record { pc = t.pc; ticks = a.ticks + n; inside = b }) y q) (sym outside) in
+    let ends : left_standing (a.ticks + n) x.bank (left t.pc None t.regs q) ≡ alone_of (record { pc = t.pc; ticks = a.ticks + n; inside = a.inside }) y q =
+    ap (λ o. alone_of (record { pc = t.pc; ticks = a.ticks + n; inside = false }) (record y { stop = o }) q) (sym open_here.0)
+    ∙ ap (λ b. alone_of (record { pc = t.pc; ticks = a.ticks + n; inside = b }) y q) (sym outside) in
     let after = alone_of (record { pc = t.pc; ticks = a.ticks + n; inside = a.inside }) y q in
-    let ran = are_turns s c.args.number c.args.budget x.bank (left t.pc t.stop t.regs q) n a.ticks (left a.pc None x.regs p) c.run_words-turns.ensures.ran within in
+    let ran = are_turns s c.args.number c.args.budget x.bank (left t.pc None t.regs q) n a.ticks (left a.pc None x.regs p) c.run_words-turns.ensures.ran within in
     subst (λ (h : Hart). TurnsLead s c.args.budget c.args.number n (alone_of a h p) after) c.hart.view_is
     (subst (λ (v : Solo). TurnsLead s c.args.budget c.args.number n v after) begins
     (subst (λ (v : Solo). TurnsLead s c.args.budget c.args.number n (left_standing a.ticks x.bank (left a.pc None x.regs p)) v) ends ran))
