@@ -1,5 +1,7 @@
+pub mod BinLines
 pub mod FirstLines
 pub mod LineEnds
+pub mod NumbersAhead
 pub mod Printed
 pub mod ReportSpelled
 pub mod ReadSteps

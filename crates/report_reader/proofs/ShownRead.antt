@@ -52,7 +52,7 @@ module _ (refused_is_read : RefusedIsRead) where
 
 -- ---- bins
 
-same_put : (d : Draft) (due : Due) (open_part : Option ShownPart) (n : ℕ) (part : ShownPart) → with_histogram (record d { due = due; begun = open_part }) n part ≡ with_histogram d n part
+pub same_put : (d : Draft) (due : Due) (open_part : Option ShownPart) (n : ℕ) (part : ShownPart) → with_histogram (record d { due = due; begun = open_part }) n part ≡ with_histogram d n part
 same_put d due open_part zero part = refl
 same_put d due open_part (suc n) part = refl
 

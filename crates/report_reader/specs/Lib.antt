@@ -1,3 +1,4 @@
+pub mod BinLines
 pub mod Drafts
 pub mod Reading
 pub mod Readable

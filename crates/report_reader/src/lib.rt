@@ -1,6 +1,7 @@
 //! Reading a report: the inverse of writing it.
 #![tactic(auto)]
 
+mod bin_lines;
 mod draft;
 mod due;
 mod ending;

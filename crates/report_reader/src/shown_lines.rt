@@ -1,16 +1,31 @@
 //! The lines of a report on wishes that were refused, and on histograms.
 
-ghost use Rattle.std.specs.Prelude.{◌≡◌, IfOk, OnOk};
+ghost use Rattle.std.specs.Prelude.{◌≡◌, ◌++◌, ◌∷◌, [], bytes_eq, length, IfOk, IfSome, IsTrue, OnOk};
+ghost use Rattle.report.specs.ShownTexts.{bin_line};
+ghost use Rattle.report_lines.specs.Lines.{bin_of_line};
 ghost use Rattle.report_reader.specs.Drafts.{after_bin, after_histogram, after_refused, with_bin, with_histogram};
 ghost use Rattle.report_reader.specs.Taking.{IsLineTaken};
 
+use crate::bin_lines::numbered_bin;
 use crate::draft::Draft;
 use crate::due::Due;
-use crate::written::{is_bin, is_histogram, is_refused};
+use crate::written::{is_histogram, is_refused};
 use pn_types::NoMemory;
 use report::ShownPart;
-use report_lines::{bin_of_line, bins_of_line, histogram_of_line, refused_of_line};
+use report_lines::{bins_of_line, histogram_of_line, refused_of_line};
 use std::alloc::Global;
+
+/// Takes the next bin of a histogram. Returns whether the line was right.
+fn take_bin(part: &mut ShownPart, line: &[u8]) -> Result<bool, NoMemory>
+    ensures right { IfOk result (λ right. right ≡ bytes_eq (line.now ++ 10 ∷ []) (bin_line (length part.old.bins) (bin_of_line line.now))) }
+    ensures bin { IfOk result (λ right. IsTrue right → part.new ≡ with_bin part.old line.now) }
+{
+    let Some(bin) = numbered_bin(part.bins.as_slice().len(), line) else {
+        return Ok(false);
+    };
+    part.bins.push(bin)?;
+    Ok(true)
+}
 
 impl Draft {
     /// Takes a wish that was refused. Returns whether the line was right.
@@ -28,22 +43,23 @@ impl Draft {
         Ok(true)
     }
 
-    /// Puts a histogram of which so many bins are left.
-    fn put_histogram(&mut self, left: u64, part: ShownPart) -> Result<(), NoMemory>
-        ensures { OnOk result (self.new ≡ with_histogram self.old left part) }
+    /// Says that so many bins are left of the histogram that was begun.
+    fn leave_bins(&mut self, left: u64) -> Result<(), NoMemory>
+        ensures { OnOk result (IfSome self.old.begun (λ part. self.new ≡ with_histogram self.old left part)) }
     {
         if left > 0 {
-            self.begun = Some(part);
             self.due = Due::Bins(left);
             return Ok(());
         }
-        self.shown.push(part)?;
-        self.begun = None;
+        if let Some(part) = self.begun.take() {
+            self.shown.push(part)?;
+        }
         self.due = Due::Shown;
         Ok(())
     }
 
     /// Takes the first line of a histogram. Returns whether the line was right.
+    #[tactic(auto, using(crate::proofs::ShownRead::same_put))]
     pub(crate) fn after_histogram(&mut self, alloc: Global, line: &[u8]) -> Result<bool, NoMemory>
         ensures { IfOk result (λ right. IsLineTaken right self.new (after_histogram self.old line.now)) }
     {
@@ -52,35 +68,22 @@ impl Draft {
         if !is_histogram(alloc, bins, &part, line)? {
             return Ok(false);
         }
-        self.put_histogram(bins, part)?;
+        self.begun = Some(part);
+        self.leave_bins(bins)?;
         Ok(true)
     }
 
     /// Takes a bin, after which so many are left. Returns whether the line was right.
-    pub(crate) fn after_bin(
-        &mut self,
-        alloc: Global,
-        left: u64,
-        line: &[u8],
-    ) -> Result<bool, NoMemory>
+    pub(crate) fn after_bin(&mut self, left: u64, line: &[u8]) -> Result<bool, NoMemory>
         ensures { IfOk result (λ right. IsLineTaken right self.new (after_bin self.old left line.now)) }
     {
-        let Some(part) = self.begun.take() else {
+        let Some(part) = &mut self.begun else {
             return Ok(false);
         };
-        let bin = bin_of_line(line);
-        if !is_bin(alloc, part.bins.as_slice().len(), &bin, line)? {
+        if !take_bin(part, line)? {
             return Ok(false);
         }
-        self.put_histogram(left, with_bin(part, line)?)?;
+        self.leave_bins(left)?;
         Ok(true)
     }
-}
-
-/// The histogram with the bin of a line.
-fn with_bin(mut part: ShownPart, line: &[u8]) -> Result<ShownPart, NoMemory>
-    ensures { IfOk result (λ more. more ≡ with_bin part line.now) }
-{
-    part.bins.push(bin_of_line(line))?;
-    Ok(part)
 }

@@ -47,7 +47,7 @@ impl Draft {
             }
             Due::Shown => self.after_shown(alloc, line),
             Due::Bins(0) | Due::Nodes(0) => Ok(false),
-            Due::Bins(left) => self.after_bin(alloc, left - 1, line),
+            Due::Bins(left) => self.after_bin(left - 1, line),
             Due::Nodes(left) => self.after_node(alloc, left - 1, line),
         }
     }

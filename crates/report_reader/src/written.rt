@@ -3,13 +3,12 @@
 ghost use Rattle.std.specs.Prelude.{◌≡◌, ◌++◌, ◌∷◌, [], bytes_eq, codes, IfOk};
 ghost use Rattle.std.specs.Fmt.{decimal};
 ghost use Rattle.report.specs.SearchTexts.{node_line, nodes_line};
-ghost use Rattle.report.specs.ShownTexts.{bin_line, histogram_head, refused_line};
+ghost use Rattle.report.specs.ShownTexts.{histogram_head, refused_line};
 ghost use Rattle.report.specs.Text.{hart_line, numbers_line};
 
-use fold_hist::Bin;
 use pn_types::NoMemory;
 use report::{
-    HartPart, NodePart, RefusedPart, ShownPart, add_bin, add_hart, add_histogram_head, add_node,
+    HartPart, NodePart, RefusedPart, ShownPart, add_hart, add_histogram_head, add_node,
     add_nodes_line, add_numbers, add_refused,
 };
 use std::alloc::Global;
@@ -89,15 +88,6 @@ pub(crate) fn is_histogram(
 {
     let mut text = Vec::new(alloc);
     add_histogram_head(alloc, &mut text, bins as usize, part)?;
-    Ok(is_text(line, text.as_slice()))
-}
-
-/// Whether a line is that of a bin of this number.
-pub(crate) fn is_bin(alloc: Global, number: usize, bin: &Bin, line: &[u8]) -> Result<bool, NoMemory>
-    ensures { IfOk result (λ same. same ≡ bytes_eq (line.now ++ 10 ∷ []) (bin_line number bin.now)) }
-{
-    let mut text = Vec::new(alloc);
-    add_bin(alloc, &mut text, number, bin)?;
     Ok(is_text(line, text.as_slice()))
 }
 
