@@ -7,7 +7,7 @@ ghost use Rattle.rv_mem.specs.Regions.{parts_of};
 use crate::region::{
     Region, Spot, find_byte, find_number, number_at, put_at, put_byte, put_number,
 };
-use crate::window::{Window, find_window, pages_of, windows_of};
+use crate::window::{find_quick, note_windows, pages_of};
 use pn_types::NoMemory;
 use rv_word::MemStop;
 use std::alloc::Global;
@@ -20,7 +20,7 @@ pub struct Mem {
     regions: Vec<Region>,
     text_at: u64,
     text_len: u64,
-    windows: Vec<Window>,
+    /// For each page of addresses the number of a region.
     pages: Vec<u8>,
 }
 
@@ -28,7 +28,8 @@ impl Model for Mem {
     ghost use Rattle.std.specs.FinMap.{from_entries};
     ghost use Rattle.rv_word.specs.Memory.{Memory, memory_code};
     ghost use Rattle.rv_mem.specs.Regions.{entries_of};
-    ghost use Rattle.rv_mem.specs.Windows.{AreClear};
+    ghost use Rattle.std.specs.Prelude.{length};
+    ghost use Rattle.rv_mem.specs.Windows.{AreNumbers, AreQuick};
 
     ghost Value = { Memory };
 
@@ -36,7 +37,7 @@ impl Model for Mem {
 
     ghost view = { λ m. record { text_at = m.text_at; text_len = m.text_len; cells = from_entries (entries_of m.regions.items) } };
 
-    ghost invariant = { λ m. AreClear m.text_at m.text_len m.regions.items m.windows.items };
+    ghost invariant = { λ m. AreQuick m.text_at m.text_len m.regions.items × AreNumbers (length m.regions.items) m.pages.items };
 }
 
 /// Whether the address is one of `len` from the start.
@@ -57,20 +58,19 @@ impl Mem {
     /// The memory of these regions, of which the first that has an address counts.
     pub(crate) fn from_regions(
         alloc: Global,
-        regions: Vec<Region>,
+        mut regions: Vec<Region>,
         text_at: u64,
         text_len: u64,
         pages: usize,
     ) -> Result<Mem, NoMemory>
         ensures { IfOk result (λ mem. mem ≡ memory_of text_at text_len (parts_of regions.items)) }
     {
-        let windows = windows_of(alloc, &regions, text_at, text_len)?;
-        let pages = pages_of(alloc, &windows, pages)?;
+        note_windows(&mut regions, text_at, text_len);
+        let pages = pages_of(alloc, &regions, pages)?;
         Ok(Mem {
             regions,
             text_at,
             text_len,
-            windows,
             pages,
         })
     }
@@ -92,14 +92,14 @@ impl Mem {
         }
     }
 
-    /// Returns what [`load`](Mem::load) returns, where the bytes are in the window of the address's page. `None` says nothing of them.
+    /// Returns what [`load`](Mem::load) returns, where an access is quick at the address. `None` says nothing of the bytes.
     #[inline(always)]
     pub fn quick_load(&self, at: u64, n: u32) -> Option<u64>
         requires { n ≤ 8 }
         ensures value { IfSome result (λ v. load n self.now at ≡ Ok v) }
         ensures bound { IfSome result (λ v. v < 256 ^ n) }
     {
-        if let Some(i) = find_window(&self.pages, &self.windows, at, n) {
+        if let Some(i) = find_quick(&self.pages, &self.regions, at) {
             let region = &self.regions[i];
             let place = (at - region.at) as usize;
             return number_at(&region.bytes, place, n);
@@ -123,7 +123,7 @@ impl Mem {
         self.load_by_regions(at, n)
     }
 
-    /// The same where no window has the bytes.
+    /// The same at any address.
     #[inline(never)]
     fn load_by_regions(&self, at: u64, n: u32) -> Result<u64, MemStop>
         requires { n ≤ 8 }
@@ -193,15 +193,14 @@ impl Mem {
         }
     }
 
-    /// Does what [`store`](Mem::store) does, and returns true, where the bytes are in the window of the address's page. Else it does
-    /// nothing.
+    /// Does what [`store`](Mem::store) does, and returns true, where an access is quick at the address. Else it does nothing.
     #[inline(always)]
     pub fn quick_store(&mut self, at: u64, n: u32, v: u64) -> bool
         requires { n ≤ 8 }
         ensures stored { result ≡ true → store n self.old at v ≡ Ok self.new }
         ensures unchanged { result ≡ false → self.new ≡ self.old }
     {
-        if let Some(i) = find_window(&self.pages, &self.windows, at, n) {
+        if let Some(i) = find_quick(&self.pages, &self.regions, at) {
             let place = (at - self.regions[i].at) as usize;
             put_at(&mut self.regions, Spot { region: i, place }, at, n, v);
             return true;
@@ -226,7 +225,7 @@ impl Mem {
         self.store_by_regions(at, n, v)
     }
 
-    /// The same where no window has the bytes.
+    /// The same at any address.
     #[inline(never)]
     fn store_by_regions(&mut self, at: u64, n: u32, v: u64) -> Result<(), MemStop>
         requires { n ≤ 8 }

@@ -2,7 +2,7 @@
 
 ghost use Rattle.std.specs.Prelude.{◌≡◌, ◌+◌, ◌<◌, ◌≤◌, ◌^◌, ℕ, cond, nat_eq, Some, None, length, IfSome, true, false};
 ghost use Rattle.std.specs.Option.{IsSome};
-ghost use Rattle.rv_mem.specs.Regions.{first_byte, place_of, little_endian, number_in, with_number, overlaid, HasRange};
+ghost use Rattle.rv_mem.specs.Regions.{first_byte, place_of, region_part, little_endian, number_in, with_number, overlaid, HasRange};
 ghost use Rattle.rv_mem.specs.Windows.{SameShape};
 
 /// A run of mapped bytes.
@@ -12,6 +12,10 @@ pub struct Region {
     pub at: u64,
     /// The bytes from there on.
     pub bytes: Vec<u8>,
+    /// The first address at which an access is quick.
+    pub quick_from: u64,
+    /// At how many addresses from there on an access is quick: one of up to 8 bytes touches this region alone there, and no text.
+    pub quick_len: u64,
 }
 
 /// A place in the bytes of one of several regions.
@@ -24,6 +28,18 @@ pub struct Spot {
 }
 
 impl Region {
+    /// The bytes from an address on, where no access is quick.
+    pub fn new(at: u64, bytes: Vec<u8>) -> Region
+        ensures { region_part result ≡ (at, bytes.items) }
+    {
+        Region {
+            at,
+            bytes,
+            quick_from: 0,
+            quick_len: 0,
+        }
+    }
+
     /// The place of the address in the region, if it is there.
     fn place_of(&self, at: u64) -> Option<usize>
         ensures { result ≡ place_of self.now at }

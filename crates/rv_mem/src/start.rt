@@ -38,10 +38,7 @@ fn zeros(alloc: Global, len: usize) -> Result<Vec<u8>, NoMemory>
 fn empty_region(alloc: Global, at: u64, len: usize) -> Result<Region, NoMemory>
     ensures { IfOk result (λ region. region_part region ≡ (at, replicate len 0)) }
 {
-    Ok(Region {
-        at,
-        bytes: zeros(alloc, len)?,
-    })
+    Ok(Region::new(at, zeros(alloc, len)?))
 }
 
 /// The bytes of the segment, and zeros to its size.
@@ -52,10 +49,7 @@ fn segment_region(alloc: Global, segment: &Segment) -> Result<Region, NoMemory>
     let mut bytes = Vec::with_capacity(alloc, segment.size as usize)?;
     bytes.extend_from_slice(segment.bytes.as_slice())?;
     bytes.resize(segment.size as usize, 0)?;
-    Ok(Region {
-        at: segment.at,
-        bytes,
-    })
+    Ok(Region::new(segment.at, bytes))
 }
 
 /// The memory at the start, where proofs see no length of heap and stack as a numeral.

@@ -1,12 +1,16 @@
 //! Windows: of each region the part in which an access needs one test alone.
 
-ghost use Rattle.std.specs.Prelude.{◌≡◌, ◌<◌, ◌≤◌, ℕ, IfOk, IfSome, length, slice_get, false};
+ghost use Rattle.std.specs.Prelude.{◌≡◌, ◌<◌, ◌≤◌, ◌-◌, ℕ, EachIndex, IfOk, IfSome, length, false};
 ghost use Rattle.rv_word.specs.Memory.{in_range};
-ghost use Rattle.rv_mem.specs.Windows.{IsClear, AreClear, HasWindow};
+ghost use Rattle.rv_mem.specs.Windows.{IsClear, AreNumbers, AreQuick, IsNotedIn, IsQuickAt};
+ghost use Rattle.rv_mem.specs.Regions.{parts_of, region_part};
 
 use crate::region::Region;
 use pn_types::NoMemory;
 use std::alloc::Global;
+
+/// The greatest length of an access, in bytes.
+const MAX_LEN: u64 = 8;
 
 /// Addresses of one region, of which none is in the text and none in a region before it.
 #[derive(Clone, Copy, Drop)]
@@ -15,6 +19,21 @@ pub struct Window {
     pub from: u64,
     /// The address after the last.
     pub to: u64,
+}
+
+impl Region {
+    /// Notes that an access is quick where it stays in the window.
+    fn note(&mut self, window: Window)
+        ensures part { region_part self.new ≡ region_part self.old }
+        ensures from { self.new.quick_from ≡ window.from }
+        ensures len { self.new.quick_len ≡ window.to - window.from - 7 }
+    {
+        self.quick_from = window.from;
+        self.quick_len = window
+            .to
+            .saturating_sub(window.from)
+            .saturating_sub(MAX_LEN - 1);
+    }
 }
 
 /// The part of the window before the text or the one after it, whichever is longer.
@@ -56,33 +75,27 @@ fn window_of(regions: &Vec<Region>, i: usize, text_at: u64, text_len: u64) -> Wi
     window
 }
 
-/// Makes the windows of all regions.
-///
-/// # Errors
-///
-/// `NoMemory` if memory runs out.
-pub fn windows_of(
-    alloc: Global,
-    regions: &Vec<Region>,
-    text_at: u64,
-    text_len: u64,
-) -> Result<Vec<Window>, NoMemory>
-    ensures { IfOk result (λ ws. AreClear text_at text_len regions.now.items ws.items) }
+/// Notes in each region at which addresses an access is quick.
+pub fn note_windows(regions: &mut Vec<Region>, text_at: u64, text_len: u64)
+    ensures parts { parts_of regions.new.items ≡ parts_of regions.old.items }
+    ensures quick { AreQuick text_at text_len regions.new.items }
 {
-    let mut windows = Vec::with_capacity(alloc, regions.len())?;
     for i in 0..regions.len() {
-        windows.push(window_of(regions, i, text_at, text_len))?;
+        let window = window_of(regions, i, text_at, text_len);
+        regions[i].note(window);
     }
-    Ok(windows)
 }
 
-/// Notes the window's number at its pages.
-fn note(pages: &mut Vec<u8>, window: Window, number: u8) {
-    if window.to <= window.from {
+/// Notes the region's number at the pages of its quick addresses.
+fn note_pages(pages: &mut Vec<u8>, region: &Region, number: u8)
+    ensures len { length pages.new.items ≡ length pages.old.items }
+    ensures noted { EachIndex pages.new.items (IsNotedIn pages.old.items pages.new.items number) }
+{
+    if region.quick_len == 0 {
         return;
     }
-    let first = window.from >> 12;
-    let last = (window.to - 1) >> 12;
+    let first = region.quick_from >> 12;
+    let last = region.quick_from.saturating_add(region.quick_len - 1) >> 12;
     for page in first..last + 1 {
         if page >= pages.len() as u64 {
             return;
@@ -91,34 +104,42 @@ fn note(pages: &mut Vec<u8>, window: Window, number: u8) {
     }
 }
 
-/// Makes for each of the first `count` pages of 4,096 bytes the number of the window in which an access is looked for first.
+/// Makes for each of the first `count` pages of 4,096 bytes the number of the region in which an access is looked for first; no pages
+/// where there is no region.
 ///
 /// # Errors
 ///
 /// `NoMemory` if memory runs out.
-pub fn pages_of(alloc: Global, windows: &Vec<Window>, count: usize) -> Result<Vec<u8>, NoMemory> {
+pub fn pages_of(alloc: Global, regions: &Vec<Region>, count: usize) -> Result<Vec<u8>, NoMemory>
+    ensures { IfOk result (λ pages. AreNumbers (length regions.now.items) pages.items) }
+{
+    if regions.is_empty() {
+        return Ok(Vec::new(alloc));
+    }
     let mut pages = vec![in alloc; 0; count]?;
-    for i in 0..windows.len() {
+    for i in 0..regions.len() {
         if i < 256 {
-            note(&mut pages, windows[i], i as u8);
+            note_pages(&mut pages, &regions[i], i as u8);
         }
     }
     Ok(pages)
 }
 
-/// The number of the window of the address's page, where all the `n` bytes from the address on are in that window.
+/// The number of the region of the address's page, where an access at the address is quick. The distance from the first quick address
+/// wraps where the address is before it, so that one test finds both ends.
 #[inline(always)]
-pub fn find_window(pages: &Vec<u8>, windows: &Vec<Window>, at: u64, n: u32) -> Option<usize>
-    ensures { IfSome result (HasWindow windows.now.items at n) }
+pub fn find_quick(pages: &Vec<u8>, regions: &Vec<Region>, at: u64) -> Option<usize>
+    requires { AreNumbers (length regions.now.items) pages.now.items }
+    ensures { IfSome result (IsQuickAt regions.now.items at) }
 {
     let page = (at >> 12) as usize;
-    if n == 0 || page >= pages.len() {
+    if page >= pages.len() {
         return None;
     }
     let i = pages[page] as usize;
-    let window = windows.get(i).copied()?;
-    if at < window.from || window.to <= at || window.to - at < n as u64 {
-        return None;
+    if at.wrapping_sub(regions[i].quick_from) < regions[i].quick_len {
+        Some(i)
+    } else {
+        None
     }
-    Some(i)
 }

@@ -18,4 +18,4 @@ returns-clause-put c =
     let n : length new ≡ r.bytes.len = omega (arith, c.write_at.auto.bytes, c.deref_mut.ensures.len, r.bytes.ok.0) in
     let e : (with_items r.bytes new).items ≡ with_number c.args.n r.bytes.items c.args.spot.place c.args.v = with_items_is r.bytes new n ∙ c.write_at.ensures ∙ ap (λ bs. with_number c.args.n bs c.args.spot.place c.args.v) c.deref_mut.ensures.value in
     λ q.
-    written_spot c.args.regions.now.items c.args.spot r (record { at = r.at; bytes = with_items r.bytes new }) c.args.n c.args.at c.args.v q c.requires c.index_mut.ensures.value (refl {0}) e
+    written_spot c.args.regions.now.items c.args.spot r (record { at = r.at; bytes = with_items r.bytes new; quick_from = r.quick_from; quick_len = r.quick_len }) c.args.n c.args.at c.args.v q c.requires c.index_mut.ensures.value (refl {0}) e
