@@ -1,5 +1,5 @@
 -- A bin is read from its line, and from no other.
-use Rattle.std.proofs.Common.{◌≡◌, ℕ, ◌<◌, ◌≤◌, ◌==◌, ◌&&◌, nat_le, cond, Bool, true, false, Option, Some, None, List, [], ◌∷◌, ◌++◌, length, codes, bytes_eq, refl, sym, ap, ◌∙◌, arith, append_assoc, subst}
+use Rattle.std.proofs.Common.{◌≡◌, ℕ, ◌≤◌, ◌==◌, ◌&&◌, nat_le, cond, Bool, true, false, Option, Some, None, List, [], ◌∷◌, ◌++◌, length, codes, bytes_eq, refl, sym, ap, ◌∙◌, arith, append_assoc, subst}
 use Rattle.std.specs.Fmt.{decimal}
 use Rattle.std.specs.Option.{option_and_then, unwrap_or}
 use Rattle.std.proofs.lemmas.Bool.{eq-eqb, eqb-true, leb-true}
@@ -8,7 +8,7 @@ use Rattle.std.proofs.lemmas.Slice.Eq.{bytes_eq-Decides}
 use Rattle.fold_hist.specs.declared.bin.Bin.{Bin}
 use Rattle.pn_text.specs.Numbers.{at_most, decimal_from}
 use Rattle.report.specs.ShownTexts.{bin_line}
-use Rattle.advice.specs.Words.{decimal_number, number_at, word_at}
+use Rattle.advice.specs.Words.{number_at, word_at}
 use Rattle.report_lines.specs.Laws.{IsLine}
 use Rattle.report_lines.specs.Lines.{bin_of_line}
 use Rattle.report_lines.specs.Readable.{Is64Bit, IsBin}
