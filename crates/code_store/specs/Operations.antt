@@ -11,7 +11,7 @@ use Rattle.rv_word.specs.declared.outcome.Cause.{Cause}
 use Rattle.rv_word.specs.declared.outcome.Cause.TheVariants.{Access}
 use Rattle.rv_word.specs.declared.outcome.Next.{Next}
 use Rattle.rv_word.specs.declared.outcome.Next.TheVariants as ways
-use Rattle.rv_exec.specs.Flat.{instr_of, CanRun, IsFlatOf}
+use Rattle.rv_exec.specs.Flat.{instr_of, CanRunFlat, IsFlatOf}
 use Rattle.tramp_spec.specs.Marks.{is_jump}
 use Rattle.tramp_spec.specs.Banks.{bank_at, bank_len, is_in_bank}
 use Rattle.tramp_spec.specs.Steps.{Bench, Stood, stand, step_decoded, with_doubleword, with_value}
@@ -98,9 +98,9 @@ IsOperationOf w o = IsOperationBy w.mark (decode_of w.word) o
 -- in the list of flats a word of the program has its flat, and another is no instruction
 abbrev pub IsFlatBy : Mark → Option Instr → Flat → Type 0
 IsFlatBy Own i flat = IsFlatOf i flat
-IsFlatBy Enter i flat = (instr_of flat ≡ None) × CanRun flat
-IsFlatBy Tool i flat = (instr_of flat ≡ None) × CanRun flat
-IsFlatBy Leave i flat = (instr_of flat ≡ None) × CanRun flat
+IsFlatBy Enter i flat = (instr_of flat ≡ None) × CanRunFlat flat
+IsFlatBy Tool i flat = (instr_of flat ≡ None) × CanRunFlat flat
+IsFlatBy Leave i flat = (instr_of flat ≡ None) × CanRunFlat flat
 
 abbrev pub IsMarkedFlat : MarkedWord → Flat → Type 0
 IsMarkedFlat w flat = IsFlatBy w.mark (decode_of w.word) flat

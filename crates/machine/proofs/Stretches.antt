@@ -7,7 +7,7 @@ use Rattle.rv_word.specs.Table.{decode_of}
 use Rattle.rv_word.specs.Values.{wrap}
 use Rattle.rv_word.specs.declared.instr.Instr.{Instr}
 use Rattle.rv_word.specs.declared.outcome.Cause.{Cause}
-use Rattle.rv_exec.specs.Flat.{instr_of, CanRun}
+use Rattle.rv_exec.specs.Flat.{instr_of, CanRunFlat}
 use Rattle.rv_exec.proofs.Flats.{goes_as}
 use Rattle.rv_exec.specs.declared.flat.Flat.{Flat}
 use Rattle.tramp_spec.specs.Codes.{fetched_at}
@@ -50,14 +50,14 @@ pub own_word : (w : Option MarkedWord) (flat : Flat) (h at : ℕ) (regs : List �
 own_word None flat h at regs p pc new_regs new_p is e = absurd is
 own_word (Some w) flat h at regs p pc new_regs new_p is e = own_by w.mark (decode_of w.word) flat h at regs p pc new_regs new_p is e
 
-fits_by : (m : Mark) (j : Option Instr) (flat : Flat) → IsFlatBy m j flat → CanRun flat
+fits_by : (m : Mark) (j : Option Instr) (flat : Flat) → IsFlatBy m j flat → CanRunFlat flat
 fits_by Own j flat is = is.can_run
 fits_by Enter j flat is = is.1
 fits_by Tool j flat is = is.1
 fits_by Leave j flat is = is.1
 
 -- its numbers fit
-pub fits : (w : Option MarkedWord) (flat : Flat) → IsFlatAt w (Some flat) → CanRun flat
+pub fits : (w : Option MarkedWord) (flat : Flat) → IsFlatAt w (Some flat) → CanRunFlat flat
 fits None flat is = absurd is
 fits (Some w) flat is = fits_by w.mark (decode_of w.word) flat is
 

@@ -8,7 +8,7 @@ use Rattle.std.proofs.lemmas.Option.{same_Some}
 use Rattle.std.proofs.lemmas.Slice.Eq.{bytes_eq-Decides}
 use Rattle.pn_text.specs.Numbers.{is_digit}
 use Rattle.report_lines.specs.Readable.{Is64Bit}
-use Rattle.report_reader.specs.BinLines.{number_ahead, number_behind, number_from}
+use Rattle.report_reader.specs.BinLines.{number_ahead, number_behind, with_more_digits}
 
 -- no digit stands first
 abbrev pub EndsNumber : List ℕ → Type 0
@@ -21,18 +21,18 @@ digit_is : (d : ℕ) → d < 10 → is_digit (48 + d) ≡ true
 digit_is d h = grind arith
 
 -- one more digit
-digit_step : (n d m : ℕ) (rest : List ℕ) → d < 10 → n * 10 + d ≡ m → Is64Bit m → number_from n ((48 + d) ∷ rest) ≡ number_from m rest
+digit_step : (n d m : ℕ) (rest : List ℕ) → d < 10 → n * 10 + d ≡ m → Is64Bit m → with_more_digits n ((48 + d) ∷ rest) ≡ with_more_digits m rest
 digit_step n d m rest small same h =
     let value : 48 + d - 48 ≡ d = omega arith in
     rw (digit_is d small, value, same, lt-ltb m (2 ^ 64) h) refl
 
-from_end : (n : ℕ) (rest : List ℕ) → EndsNumber rest → number_from n rest ≡ Some (n, rest)
+from_end : (n : ℕ) (rest : List ℕ) → EndsNumber rest → with_more_digits n rest ≡ Some (n, rest)
 from_end n [] h = refl
 from_end n (byte ∷ bytes) h = rw h refl
 
 -- these digits give the number
 abbrev Gives : ℕ → List ℕ → Type 0
-Gives n digits = 0 < n → Is64Bit n → (rest : List ℕ) → number_ahead (digits ++ rest) ≡ number_from n rest
+Gives n digits = 0 < n → Is64Bit n → (rest : List ℕ) → number_ahead (digits ++ rest) ≡ with_more_digits n rest
 
 gives_one : (n : ℕ) → n < 10 → Gives n ((48 + n) ∷ [])
 gives_one n h some fits rest =
@@ -73,7 +73,7 @@ module _ (n m byte : ℕ) (bytes rest : List ℕ) (some : 0 < n) where
   Told = IsAhead (decimal n ++ byte ∷ bytes) m rest
 
   abbrev More : Type 0
-  More = Is64Bit next → number_from next bytes ≡ Some (m, rest) → IsAhead (decimal next ++ bytes) m rest
+  More = Is64Bit next → with_more_digits next bytes ≡ Some (m, rest) → IsAhead (decimal next ++ bytes) m rest
 
   digit_back : Is64Bit next → is_digit byte ≡ true → IsAhead (decimal next ++ bytes) m rest → Told
   digit_back fits digit more =
@@ -84,15 +84,15 @@ module _ (n m byte : ℕ) (bytes rest : List ℕ) (some : 0 < n) where
       let step : decimal next ≡ decimal n ++ byte ∷ [] = decimal_step next (omega arith) fits ∙ rw (front, last) refl in
       (sym (append_assoc (decimal n) (byte ∷ []) bytes) ∙ ap (λ (l : List ℕ). l ++ bytes) (sym step) ∙ more.0, more.1)
 
-  in_range : (b : Bool) → nat_lt next (2 ^ 64) ≡ b → is_digit byte ≡ true → More → cond b (number_from next bytes) None ≡ Some (m, rest) → Told
+  in_range : (b : Bool) → nat_lt next (2 ^ 64) ≡ b → is_digit byte ≡ true → More → cond b (with_more_digits next bytes) None ≡ Some (m, rest) → Told
   in_range false f digit more e = cc
   in_range true f digit more e = let fits : Is64Bit next = ltb-true next (2 ^ 64) f in digit_back fits digit (more fits e)
 
-  by_digit : (b : Bool) → is_digit byte ≡ b → Is64Bit n → More → cond b (cond (nat_lt next (2 ^ 64)) (number_from next bytes) None) (Some (n, byte ∷ bytes)) ≡ Some (m, rest) → Told
+  by_digit : (b : Bool) → is_digit byte ≡ b → Is64Bit n → More → cond b (cond (nat_lt next (2 ^ 64)) (with_more_digits next bytes) None) (Some (n, byte ∷ bytes)) ≡ Some (m, rest) → Told
   by_digit true digit h more e = in_range (nat_lt next (2 ^ 64)) refl digit more e
   by_digit false digit h more e = told (n, byte ∷ bytes) (m, rest) h e
 
-from_back : (n m : ℕ) (bytes rest : List ℕ) → 0 < n → Is64Bit n → number_from n bytes ≡ Some (m, rest) → IsAhead (decimal n ++ bytes) m rest
+from_back : (n m : ℕ) (bytes rest : List ℕ) → 0 < n → Is64Bit n → with_more_digits n bytes ≡ Some (m, rest) → IsAhead (decimal n ++ bytes) m rest
 from_back n m [] rest some h e = told (n, []) (m, rest) h e
 from_back n m (byte ∷ bytes) rest some h e =
     by_digit n m byte bytes rest some (is_digit byte) refl h (λ fits more. from_back (n * 10 + (byte - 48)) m bytes rest (omega arith) fits more) e
@@ -101,7 +101,7 @@ ahead_back : (m : ℕ) (bytes rest : List ℕ) → number_ahead bytes ≡ Some (
 ahead_back m [] rest e = cc
 ahead_back m (byte ∷ bytes) rest e = zero_first (byte == 48) refl e
   where
-    digit_first : (b : Bool) → is_digit byte ≡ b → (byte == 48) ≡ false → cond b (number_from (byte - 48) bytes) None ≡ Some (m, rest) → IsAhead (byte ∷ bytes) m rest
+    digit_first : (b : Bool) → is_digit byte ≡ b → (byte == 48) ≡ false → cond b (with_more_digits (byte - 48) bytes) None ≡ Some (m, rest) → IsAhead (byte ∷ bytes) m rest
     digit_first false digit other e = cc
     digit_first true digit other e =
         let some : 0 < byte - 48 = grind arith in
@@ -112,7 +112,7 @@ ahead_back m (byte ∷ bytes) rest e = zero_first (byte == 48) refl e
         let first : decimal (byte - 48) ≡ byte ∷ [] = decimal_digit (byte - 48) (omega arith) ∙ ap (λ (d : ℕ). d ∷ []) same in
         (ap (λ (l : List ℕ). l ++ bytes) (sym first) ∙ all.0, all.1)
 
-    zero_first : (b : Bool) → (byte == 48) ≡ b → cond b (Some (0, bytes)) (cond (is_digit byte) (number_from (byte - 48) bytes) None) ≡ Some (m, rest) → IsAhead (byte ∷ bytes) m rest
+    zero_first : (b : Bool) → (byte == 48) ≡ b → cond b (Some (0, bytes)) (cond (is_digit byte) (with_more_digits (byte - 48) bytes) None) ≡ Some (m, rest) → IsAhead (byte ∷ bytes) m rest
     zero_first true is e =
         let zeroth : decimal 0 ≡ byte ∷ [] = decimal_digit 0 (omega arith) ∙ ap (λ (d : ℕ). d ∷ []) (sym (eqb-true byte 48 is)) in
         let all = told (0, bytes) (m, rest) (omega arith) e in

@@ -5,10 +5,10 @@ use Rattle.fold_hist.specs.declared.bin.Bin.{Bin}
 use Rattle.pn_text.specs.Numbers.{is_digit}
 
 -- the number of 64 bits whose first digits give n and whose others begin these bytes, and what follows it
-abbrev pub number_from : ℕ → List ℕ → Option (ℕ × List ℕ)
-number_from n [] = Some (n, [])
-number_from n (byte ∷ bytes) =
-    if is_digit byte then (if nat_lt (n * 10 + (byte - 48)) (2 ^ 64) then number_from (n * 10 + (byte - 48)) bytes else None)
+abbrev pub with_more_digits : ℕ → List ℕ → Option (ℕ × List ℕ)
+with_more_digits n [] = Some (n, [])
+with_more_digits n (byte ∷ bytes) =
+    if is_digit byte then (if nat_lt (n * 10 + (byte - 48)) (2 ^ 64) then with_more_digits (n * 10 + (byte - 48)) bytes else None)
     else Some (n, byte ∷ bytes)
 
 -- the number that begins these bytes, and what follows it; a first 0 is all of it
@@ -16,7 +16,7 @@ abbrev pub number_ahead : List ℕ → Option (ℕ × List ℕ)
 number_ahead [] = None
 number_ahead (byte ∷ bytes) =
     if byte == 48 then Some (0, bytes)
-    else if is_digit byte then number_from (byte - 48) bytes
+    else if is_digit byte then with_more_digits (byte - 48) bytes
     else None
 
 -- the same behind a text

@@ -4,14 +4,14 @@ ghost use Rattle.std.specs.Prelude.{◌≡◌, ◌++◌, ◌∷◌, [], bytes_eq
 ghost use Rattle.std.specs.Option.{option_map};
 ghost use Rattle.report.specs.ShownTexts.{bin_line};
 ghost use Rattle.report_lines.specs.Lines.{bin_of_line};
-ghost use Rattle.report_reader.specs.BinLines.{number_ahead, number_behind, number_from};
+ghost use Rattle.report_reader.specs.BinLines.{number_ahead, number_behind, with_more_digits};
 
 use fold_hist::Bin;
 
 /// The number whose first digits give `first` and whose others begin these bytes, and what follows it, or None where the
 /// number is 2^64 or above.
-fn number_from(first: u64, bytes: &[u8]) -> Option<(u64, &[u8])>
-    ensures { option_map (λ told. (told.0, told.1.now)) result ≡ number_from first bytes.now }
+fn with_more_digits(first: u64, bytes: &[u8]) -> Option<(u64, &[u8])>
+    ensures { option_map (λ told. (told.0, told.1.now)) result ≡ with_more_digits first bytes.now }
 {
     let mut number = first;
     let mut rest = bytes;
@@ -38,7 +38,7 @@ fn number_ahead(bytes: &[u8]) -> Option<(u64, &[u8])>
     if !first.is_ascii_digit() {
         return None;
     }
-    number_from(u64::from(*first - b'0'), rest)
+    with_more_digits(u64::from(*first - b'0'), rest)
 }
 
 /// The number behind a text that begins these bytes, and what follows it.

@@ -105,7 +105,7 @@ PutsResult (flat.Jr rs1 imm) = Unit {0}
 PutsResult f = IfSome (instr_of f) (λ i. IsAboveZero (registers_of i).rd)
 
 -- what can be run: its numbers fit
-pub record CanRun (f : Flat) : Type 0 where
+pub record CanRunFlat (f : Flat) : Type 0 where
   pub word : IfSome (instr_of f) HasWord
   pub result : PutsResult f
 
@@ -116,7 +116,7 @@ DoesAs i j = (pc h : ℕ) (regs : List ℕ) (p : Prog) → exec_decoded i pc h r
 -- the flat of an instruction does what that does, if it is one at all
 pub record IsFlatOf (i : Option Instr) (f : Flat) : Type 0 where
   pub does : IfSome (instr_of f) (DoesAs i)
-  pub can_run : CanRun f
+  pub can_run : CanRunFlat f
 
 -- ---- for proofs alone
 

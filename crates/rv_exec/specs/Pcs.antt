@@ -3,5 +3,5 @@ use Rattle.std.specs.Prelude.{ℕ, ◌+◌, ◌*◌}
 use Rattle.rv_word.specs.Values.{wrap}
 use Rattle.rv_exec.specs.declared.pc.Pc.{Pc}
 
-abbrev pub address_of : Pc → ℕ
-address_of p = wrap (p.first + 4 * p.place)
+abbrev pub pc_address : Pc → ℕ
+pc_address p = wrap (p.first + 4 * p.place)

@@ -6,7 +6,7 @@ ghost use Rattle.rv_word.specs.Registers.{reg, with_reg};
 ghost use Rattle.rv_word.specs.Values.{wrap, imm_value, shift_value, shift_word_value, reg_value, reg_32_value, is_branch_taken, store_len};
 ghost use Rattle.rv_word.specs.declared.action.Action.TheVariants.{Jump, BranchTo, ReadMemory, WriteMemory};
 ghost use Rattle.rv_exec.specs.Flat.{offset_of, wide};
-ghost use Rattle.rv_exec.specs.Pcs.{address_of};
+ghost use Rattle.rv_exec.specs.Pcs.{pc_address};
 ghost use Rattle.rv_exec.specs.Shared.{prog_in};
 
 use crate::outcomes::next_pc;
@@ -37,7 +37,7 @@ pub fn compute(rd: u8, value: u64, pc: &mut Pc, regs: &mut Regs) -> bool
     requires { (1 ≤ rd) × (rd < 32) }
     ensures goes { result ≡ true }
     ensures first { pc.new.first ≡ pc.old.first }
-    ensures pc { address_of pc.new ≡ next (address_of pc.old) }
+    ensures pc { pc_address pc.new ≡ next (pc_address pc.old) }
     ensures regs { regs.new ≡ with_reg regs.old rd value }
 {
     regs.put(rd as u32, value);
@@ -51,7 +51,7 @@ pub fn immediate(op: ImmOp, rd: u8, rs1: u8, imm: i32, pc: &mut Pc, regs: &mut R
     requires { (1 ≤ rd) × (rd < 32) × (rs1 < 32) }
     ensures goes { result ≡ true }
     ensures first { pc.new.first ≡ pc.old.first }
-    ensures pc { address_of pc.new ≡ next (address_of pc.old) }
+    ensures pc { pc_address pc.new ≡ next (pc_address pc.old) }
     ensures regs { regs.new ≡ with_reg regs.old rd (imm_value op (reg regs.old rs1) (wide imm)) }
 {
     let value = imm_result(op, regs.get(rs1 as u32), widened(imm));
@@ -64,7 +64,7 @@ pub fn shift(op: ShiftOp, rd: u8, rs1: u8, by: u8, pc: &mut Pc, regs: &mut Regs)
     requires { (1 ≤ rd) × (rd < 32) × (rs1 < 32) × (by < 64) }
     ensures goes { result ≡ true }
     ensures first { pc.new.first ≡ pc.old.first }
-    ensures pc { address_of pc.new ≡ next (address_of pc.old) }
+    ensures pc { pc_address pc.new ≡ next (pc_address pc.old) }
     ensures regs { regs.new ≡ with_reg regs.old rd (shift_value op (reg regs.old rs1) by) }
 {
     let value = shift_result(op, regs.get(rs1 as u32), by as u32);
@@ -77,7 +77,7 @@ pub fn shift_32(op: ShiftOp, rd: u8, rs1: u8, by: u8, pc: &mut Pc, regs: &mut Re
     requires { (1 ≤ rd) × (rd < 32) × (rs1 < 32) × (by < 32) }
     ensures goes { result ≡ true }
     ensures first { pc.new.first ≡ pc.old.first }
-    ensures pc { address_of pc.new ≡ next (address_of pc.old) }
+    ensures pc { pc_address pc.new ≡ next (pc_address pc.old) }
     ensures regs { regs.new ≡ with_reg regs.old rd (shift_word_value op (reg regs.old rs1) by) }
 {
     let value = shift_word_result(op, regs.get(rs1 as u32), by as u32);
@@ -90,7 +90,7 @@ pub fn operate(op: RegOp, rd: u8, rs1: u8, rs2: u8, pc: &mut Pc, regs: &mut Regs
     requires { (1 ≤ rd) × (rd < 32) × (rs1 < 32) × (rs2 < 32) }
     ensures goes { result ≡ true }
     ensures first { pc.new.first ≡ pc.old.first }
-    ensures pc { address_of pc.new ≡ next (address_of pc.old) }
+    ensures pc { pc_address pc.new ≡ next (pc_address pc.old) }
     ensures regs { regs.new ≡ with_reg regs.old rd (reg_value op (reg regs.old rs1) (reg regs.old rs2)) }
 {
     let value = reg_result(op, regs.get(rs1 as u32), regs.get(rs2 as u32));
@@ -103,7 +103,7 @@ pub fn operate_32(op: RegOp32, rd: u8, rs1: u8, rs2: u8, pc: &mut Pc, regs: &mut
     requires { (1 ≤ rd) × (rd < 32) × (rs1 < 32) × (rs2 < 32) }
     ensures goes { result ≡ true }
     ensures first { pc.new.first ≡ pc.old.first }
-    ensures pc { address_of pc.new ≡ next (address_of pc.old) }
+    ensures pc { pc_address pc.new ≡ next (pc_address pc.old) }
     ensures regs { regs.new ≡ with_reg regs.old rd (reg_32_value op (reg regs.old rs1) (reg regs.old rs2)) }
 {
     let value = reg_32_result(op, regs.get(rs1 as u32), regs.get(rs2 as u32));
@@ -117,8 +117,8 @@ pub fn jump(rd: u8, words: i32, pc: &mut Pc, regs: &mut Regs) -> bool
     requires { (1 ≤ rd) × (rd < 32) }
     ensures goes { result ≡ true }
     ensures first { pc.new.first ≡ pc.old.first }
-    ensures state { (p : Prog) → perform 0 (Jump rd (wrap (address_of pc.old + offset_of words))) (address_of pc.old) regs.old p
-        ≡ Goes (address_of pc.new) regs.new p }
+    ensures state { (p : Prog) → perform 0 (Jump rd (wrap (pc_address pc.old + offset_of words))) (pc_address pc.old) regs.old p
+        ≡ Goes (pc_address pc.new) regs.new p }
 {
     regs.put(rd as u32, next_pc(pc.address()));
     pc.add(words);
@@ -132,8 +132,8 @@ pub fn jump(rd: u8, words: i32, pc: &mut Pc, regs: &mut Regs) -> bool
 pub fn jump_to(rd: u8, target: u64, pc: &mut Pc, regs: &mut Regs) -> bool
     requires { (1 ≤ rd) × (rd < 32) }
     ensures first { pc.new.first ≡ pc.old.first }
-    ensures goes { result ≡ true → (p : Prog) → perform 0 (Jump rd target) (address_of pc.old) regs.old p ≡ Goes (address_of pc.new) regs.new p }
-    ensures stays { result ≡ false → (address_of pc.new ≡ address_of pc.old) × (regs.new ≡ regs.old) }
+    ensures goes { result ≡ true → (p : Prog) → perform 0 (Jump rd target) (pc_address pc.old) regs.old p ≡ Goes (pc_address pc.new) regs.new p }
+    ensures stays { result ≡ false → (pc_address pc.new ≡ pc_address pc.old) × (regs.new ≡ regs.old) }
 {
     let link = next_pc(pc.address());
     if !pc.jump(target) {
@@ -149,8 +149,8 @@ pub fn jump_to(rd: u8, target: u64, pc: &mut Pc, regs: &mut Regs) -> bool
 pub fn go(words: i32, pc: &mut Pc) -> bool
     ensures goes { result ≡ true }
     ensures first { pc.new.first ≡ pc.old.first }
-    ensures state { (regs : List ℕ) (p : Prog) → perform 0 (Jump 0 (wrap (address_of pc.old + offset_of words))) (address_of pc.old) regs p
-        ≡ Goes (address_of pc.new) regs p }
+    ensures state { (regs : List ℕ) (p : Prog) → perform 0 (Jump 0 (wrap (pc_address pc.old + offset_of words))) (pc_address pc.old) regs p
+        ≡ Goes (pc_address pc.new) regs p }
 {
     pc.add(words);
     true
@@ -161,8 +161,8 @@ pub fn go(words: i32, pc: &mut Pc) -> bool
 #[tactic(auto, unfolding(rv_word::specs::Exec::perform, rv_word::specs::Registers::with_reg))]
 pub fn go_to(target: u64, pc: &mut Pc) -> bool
     ensures first { pc.new.first ≡ pc.old.first }
-    ensures goes { result ≡ true → (regs : List ℕ) (p : Prog) → perform 0 (Jump 0 target) (address_of pc.old) regs p ≡ Goes (address_of pc.new) regs p }
-    ensures stays { result ≡ false → address_of pc.new ≡ address_of pc.old }
+    ensures goes { result ≡ true → (regs : List ℕ) (p : Prog) → perform 0 (Jump 0 target) (pc_address pc.old) regs p ≡ Goes (pc_address pc.new) regs p }
+    ensures stays { result ≡ false → pc_address pc.new ≡ pc_address pc.old }
 {
     pc.jump(target)
 }
@@ -175,7 +175,7 @@ pub fn branch(op: BranchOp, rs1: u8, rs2: u8, words: i32, pc: &mut Pc, regs: &Re
     ensures goes { result ≡ true }
     ensures first { pc.new.first ≡ pc.old.first }
     ensures state { (p : Prog) → perform 0 (BranchTo (is_branch_taken op (reg regs.now rs1) (reg regs.now rs2))
-        (wrap (address_of pc.old + offset_of words))) (address_of pc.old) regs.now p ≡ Goes (address_of pc.new) regs.now p }
+        (wrap (pc_address pc.old + offset_of words))) (pc_address pc.old) regs.now p ≡ Goes (pc_address pc.new) regs.now p }
 {
     if is_taken(op, regs.get(rs1 as u32), regs.get(rs2 as u32)) {
         pc.add(words);
@@ -210,9 +210,9 @@ pub fn load(op: LoadOp, rd: u8, at: u64, pc: &mut Pc, regs: &mut Regs, mem: &Mem
     requires { (1 ≤ rd) × (rd < 32) }
     ensures first { pc.new.first ≡ pc.old.first }
     ensures goes { result ≡ true → (resv : List (Option ℕ)) (out : List ℕ)
-        → perform 0 (ReadMemory op rd at) (address_of pc.old) regs.old (prog_of mem.now resv out)
-        ≡ Goes (address_of pc.new) regs.new (prog_of mem.now resv out) }
-    ensures stays { result ≡ false → (address_of pc.new ≡ address_of pc.old) × (regs.new ≡ regs.old) }
+        → perform 0 (ReadMemory op rd at) (pc_address pc.old) regs.old (prog_of mem.now resv out)
+        ≡ Goes (pc_address pc.new) regs.new (prog_of mem.now resv out) }
+    ensures stays { result ≡ false → (pc_address pc.new ≡ pc_address pc.old) × (regs.new ≡ regs.old) }
 {
     if let Some(n) = mem.quick_load(at, load_width(op)) {
         regs.put(rd as u32, load_result(op, n));
@@ -268,9 +268,9 @@ pub fn store(
     ensures first { pc.new.first ≡ pc.old.first }
     ensures harts { length shared.new.resv ≡ length shared.old.resv }
     ensures goes { result ≡ true → (regs : List ℕ)
-        → perform hart (WriteMemory (store_len op) at value) (address_of pc.old) regs (prog_in shared.old)
-        ≡ Goes (address_of pc.new) regs (prog_in shared.new) }
-    ensures stays { result ≡ false → (address_of pc.new ≡ address_of pc.old) × (prog_in shared.new ≡ prog_in shared.old) }
+        → perform hart (WriteMemory (store_len op) at value) (pc_address pc.old) regs (prog_in shared.old)
+        ≡ Goes (pc_address pc.new) regs (prog_in shared.new) }
+    ensures stays { result ≡ false → (pc_address pc.new ≡ pc_address pc.old) × (prog_in shared.new ≡ prog_in shared.old) }
 {
     let len = store_width(op);
     let resv = &mut shared.resv;

@@ -4,7 +4,7 @@ ghost use Rattle.std.specs.Prelude.{◌≡◌, ◌+◌, ◌%◌, true, false, If
 ghost use Rattle.rv_word.specs.Exec.{next};
 ghost use Rattle.rv_word.specs.Values.{wrap};
 ghost use Rattle.rv_exec.specs.Flat.{offset_of};
-ghost use Rattle.rv_exec.specs.Pcs.{address_of};
+ghost use Rattle.rv_exec.specs.Pcs.{pc_address};
 
 use crate::pc::Pc;
 use crate::values::widened;
@@ -13,7 +13,7 @@ impl Pc {
     /// The pc of this address, by the words from `first` on. None where one of the two is no multiple of 4.
     #[inline(always)]
     pub fn new(first: u64, address: u64) -> Option<Pc>
-        ensures { IfSome result (λ pc. (pc.first ≡ first) × (address_of pc ≡ address)) }
+        ensures { IfSome result (λ pc. (pc.first ≡ first) × (pc_address pc ≡ address)) }
     {
         if first % 4 != 0 || address % 4 != 0 {
             return None;
@@ -25,7 +25,7 @@ impl Pc {
     /// Its address.
     #[inline(always)]
     pub fn address(self) -> u64
-        ensures { result ≡ address_of self }
+        ensures { result ≡ pc_address self }
     {
         self.first.wrapping_add(self.place.wrapping_mul(4))
     }
@@ -34,7 +34,7 @@ impl Pc {
     #[inline(always)]
     pub(crate) fn step(&mut self)
         ensures first { self.new.first ≡ self.old.first }
-        ensures address { address_of self.new ≡ next (address_of self.old) }
+        ensures address { pc_address self.new ≡ next (pc_address self.old) }
     {
         self.place = self.place.wrapping_add(1);
     }
@@ -43,8 +43,8 @@ impl Pc {
     #[inline(always)]
     pub(crate) fn add(&mut self, words: i32)
         ensures first { self.new.first ≡ self.old.first }
-        ensures address { address_of self.new ≡ wrap (address_of self.old + offset_of words) }
-        ensures aligned { address_of self.new % 4 ≡ 0 }
+        ensures address { pc_address self.new ≡ wrap (pc_address self.old + offset_of words) }
+        ensures aligned { pc_address self.new % 4 ≡ 0 }
     {
         self.place = self.place.wrapping_add(widened(words));
     }
@@ -53,8 +53,8 @@ impl Pc {
     #[inline(always)]
     pub(crate) fn jump(&mut self, target: u64) -> bool
         ensures first { self.new.first ≡ self.old.first }
-        ensures goes { result ≡ true → (target % 4 ≡ 0) × (address_of self.new ≡ target) }
-        ensures stays { result ≡ false → address_of self.new ≡ address_of self.old }
+        ensures goes { result ≡ true → (target % 4 ≡ 0) × (pc_address self.new ≡ target) }
+        ensures stays { result ≡ false → pc_address self.new ≡ pc_address self.old }
     {
         if target % 4 != 0 {
             return false;

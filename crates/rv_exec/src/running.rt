@@ -3,8 +3,8 @@
 
 ghost use Rattle.std.specs.Prelude.{◌≡◌, ◌<◌, true, false, length};
 ghost use Rattle.rv_word.specs.Exec.{Goes, exec_decoded};
-ghost use Rattle.rv_exec.specs.Flat.{CanRun, instr_of};
-ghost use Rattle.rv_exec.specs.Pcs.{address_of};
+ghost use Rattle.rv_exec.specs.Flat.{CanRunFlat, instr_of};
+ghost use Rattle.rv_exec.specs.Pcs.{pc_address};
 ghost use Rattle.rv_exec.specs.Shared.{prog_in};
 
 use crate::flat::Flat;
@@ -35,13 +35,13 @@ impl Flat {
         regs: &mut Regs,
         shared: &mut Shared,
     ) -> bool
-        requires can_run { CanRun self.now }
+        requires can_run { CanRunFlat self.now }
         requires hart { hart < length shared.old.resv }
         ensures first { pc.new.first ≡ pc.old.first }
         ensures harts { length shared.new.resv ≡ length shared.old.resv }
-        ensures goes { result ≡ true → exec_decoded (instr_of self.now) (address_of pc.old) hart regs.old (prog_in shared.old)
-            ≡ Goes (address_of pc.new) regs.new (prog_in shared.new) }
-        ensures stays { result ≡ false → (address_of pc.new ≡ address_of pc.old) × (regs.new ≡ regs.old)
+        ensures goes { result ≡ true → exec_decoded (instr_of self.now) (pc_address pc.old) hart regs.old (prog_in shared.old)
+            ≡ Goes (pc_address pc.new) regs.new (prog_in shared.new) }
+        ensures stays { result ≡ false → (pc_address pc.new ≡ pc_address pc.old) × (regs.new ≡ regs.old)
             × (prog_in shared.new ≡ prog_in shared.old) }
     {
         match *self {

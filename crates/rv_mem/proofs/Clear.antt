@@ -6,7 +6,7 @@ use Rattle.std.proofs.lemmas.Bool.{cases_lt}
 use Rattle.std.proofs.lemmas.List.{get_or_default, get_or-set_same, get_or-set_other, length-set}
 use Rattle.rv_word.specs.Memory.{in_range}
 use Rattle.rv_mem.specs.Regions.{place_in, parts_of, region_part, HasRange}
-use Rattle.rv_mem.specs.Windows.{IsClear, IsQuick, AreQuick, AreNumbers, IsNotedIn, IsQuickAt, HasWindow, SamePlaces, SameShape}
+use Rattle.rv_mem.specs.Windows.{IsClear, IsQuick, AreQuick, AreRegionNumbers, IsNotedIn, IsQuickAt, HasWindow, SamePlaces, SameShape}
 use Rattle.rv_mem.specs.declared.region.Region.{Region}
 use Rattle.rv_mem.specs.declared.window.Window.{Window}
 
@@ -30,8 +30,8 @@ quick_kept text_at text_len rs new h s = λ i d lt some.
     (subst (λ n. IsQuick text_at text_len new i (get_or rs i d).quick_from n) (sym (s.counts i d))
     (record { clear = window_kept text_at text_len rs new i _ k.clear places; fits = k.fits }))
 
-pub numbers_kept : (rs new : List Region) (pages : List ℕ) → AreNumbers (length rs) pages → SameShape rs new → AreNumbers (length new) pages
-numbers_kept rs new pages h s = subst (λ n. AreNumbers n pages) (sym s.many) h
+pub numbers_kept : (rs new : List Region) (pages : List ℕ) → AreRegionNumbers (length rs) pages → SameShape rs new → AreRegionNumbers (length new) pages
+numbers_kept rs new pages h s = subst (λ n. AreRegionNumbers n pages) (sym s.many) h
 
 -- ---- an access
 

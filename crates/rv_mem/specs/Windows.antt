@@ -40,8 +40,8 @@ pub record HasWindow (text_at text_len : ℕ) (rs : List Region) (a n i : ℕ) :
 -- ---- pages
 
 -- each page has the number of one of n regions
-abbrev pub AreNumbers : ℕ → List ℕ → Type 0
-AreNumbers n pages = EachIndex pages (λ k. slice_index pages k < n)
+abbrev pub AreRegionNumbers : ℕ → List ℕ → Type 0
+AreRegionNumbers n pages = EachIndex pages (λ k. slice_index pages k < n)
 
 -- page k has the number that it had, or this one
 abbrev pub IsNotedIn : List ℕ → List ℕ → ℕ → ℕ → Type 0

@@ -29,7 +29,7 @@ impl Model for Mem {
     ghost use Rattle.rv_word.specs.Memory.{Memory, memory_code};
     ghost use Rattle.rv_mem.specs.Regions.{entries_of};
     ghost use Rattle.std.specs.Prelude.{length};
-    ghost use Rattle.rv_mem.specs.Windows.{AreNumbers, AreQuick};
+    ghost use Rattle.rv_mem.specs.Windows.{AreRegionNumbers, AreQuick};
 
     ghost Value = { Memory };
 
@@ -37,7 +37,7 @@ impl Model for Mem {
 
     ghost view = { λ m. record { text_at = m.text_at; text_len = m.text_len; cells = from_entries (entries_of m.regions.items) } };
 
-    ghost invariant = { λ m. AreQuick m.text_at m.text_len m.regions.items × AreNumbers (length m.regions.items) m.pages.items };
+    ghost invariant = { λ m. AreQuick m.text_at m.text_len m.regions.items × AreRegionNumbers (length m.regions.items) m.pages.items };
 }
 
 /// Whether the address is one of `len` from the start.

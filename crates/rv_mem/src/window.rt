@@ -2,7 +2,7 @@
 
 ghost use Rattle.std.specs.Prelude.{◌≡◌, ◌<◌, ◌≤◌, ◌-◌, ℕ, EachIndex, IfOk, IfSome, length, false};
 ghost use Rattle.rv_word.specs.Memory.{in_range};
-ghost use Rattle.rv_mem.specs.Windows.{IsClear, AreNumbers, AreQuick, IsNotedIn, IsQuickAt};
+ghost use Rattle.rv_mem.specs.Windows.{IsClear, AreRegionNumbers, AreQuick, IsNotedIn, IsQuickAt};
 ghost use Rattle.rv_mem.specs.Regions.{parts_of, region_part};
 
 use crate::region::Region;
@@ -111,7 +111,7 @@ fn note_pages(pages: &mut Vec<u8>, region: &Region, number: u8)
 ///
 /// `NoMemory` if memory runs out.
 pub fn pages_of(alloc: Global, regions: &Vec<Region>, count: usize) -> Result<Vec<u8>, NoMemory>
-    ensures { IfOk result (λ pages. AreNumbers (length regions.now.items) pages.items) }
+    ensures { IfOk result (λ pages. AreRegionNumbers (length regions.now.items) pages.items) }
 {
     if regions.is_empty() {
         return Ok(Vec::new(alloc));
@@ -129,7 +129,7 @@ pub fn pages_of(alloc: Global, regions: &Vec<Region>, count: usize) -> Result<Ve
 /// wraps where the address is before it, so that one test finds both ends.
 #[inline(always)]
 pub fn find_quick(pages: &Vec<u8>, regions: &Vec<Region>, at: u64) -> Option<usize>
-    requires { AreNumbers (length regions.now.items) pages.now.items }
+    requires { AreRegionNumbers (length regions.now.items) pages.now.items }
     ensures { IfSome result (IsQuickAt regions.now.items at) }
 {
     let page = (at >> 12) as usize;

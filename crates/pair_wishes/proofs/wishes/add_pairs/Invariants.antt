@@ -7,5 +7,5 @@ use Rattle.pair_wishes.proofs.wishes.add_pairs.Given as goal
 abbrev pub invariant-loop-metric : goal.invariant-loop-metric
 invariant-loop-metric l =
     (l.seen ++ pairs_at (map (λ metric. metric.now) (drop l.metric-index l.metrics)) l.focus
-     ≡ l.initial.seen ++ pairs_at (map (λ metric. metric.now) l.metrics) l.focus)
+    ≡ l.initial.seen ++ pairs_at (map (λ metric. metric.now) l.metrics) l.focus)
     × (l.distinct.items ≡ first_mentions l.seen)

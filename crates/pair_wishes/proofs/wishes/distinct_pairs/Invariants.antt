@@ -7,5 +7,5 @@ use Rattle.pair_wishes.proofs.wishes.distinct_pairs.Given as goal
 abbrev pub invariant-loop-focus : goal.invariant-loop-focus
 invariant-loop-focus l =
     (l.seen ++ flat_map (pairs_at (map (λ metric. metric.now) l.metrics)) (drop l.focus-index l.foci)
-     ≡ flat_map (pairs_at (map (λ metric. metric.now) l.metrics)) l.foci)
+    ≡ flat_map (pairs_at (map (λ metric. metric.now) l.metrics)) l.foci)
     × (l.distinct.items ≡ first_mentions l.seen)
