@@ -13,6 +13,7 @@ use pn_types::HartNo;
 
 impl InstrumentedMachine {
     /// Lets the hart take turns, at most `most`, as long as it is runnable. It takes no memory.
+    #[inline(always)]
     pub fn take_turns(&mut self, hart: HartNo, most: u32) -> Taken
         requires { hart < length self.old.state.core.harts }
         ensures taken { self.new ≡ record self.old { state = after_turns (quantum_turns most hart self.old.state.core) self.old.state } }

@@ -32,6 +32,5 @@ pub(crate) fn put_quantum(list: &mut Vec<Quantum>, quantum: Quantum)
     requires { vec_len list.old < vec_capacity list.old }
     ensures items { list.new.items ≡ list.old.items ++ quantum ∷ [] }
 {
-    // There is room, so this can't fail.
-    let _room = list.push(quantum);
+    list.push_reserved(quantum);
 }
