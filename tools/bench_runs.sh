@@ -71,6 +71,17 @@ for harts in 2 8 32; do
   note "the loop on $harts harts, ticks of one" 20000 2000000 "$paradyn" run loop.s none.conf --harts "$harts" --budget
 done
 
+# What a run of three words takes, all but the turns: host instructions and page faults.
+cat >three.s <<'TEXT'
+.proc main
+li a0, 0
+li a7, 93
+ecall
+.end
+TEXT
+faults() { python3 -c 'import os, sys; os.posix_spawn(sys.argv[1], sys.argv[1:], os.environ); print(os.wait4(-1, 0)[2].ru_minflt)' "$@" | tail -1; }
+echo "| a run of three words | $(instructions "$paradyn" run three.s none.conf) host instructions | $(faults "$paradyn" run three.s none.conf) page faults |"
+
 # nodes PROCEDURES BUDGET: what the search costs a node, over the same run without it.
 nodes() {
   local procedures=$1 budget=$2 count without with
