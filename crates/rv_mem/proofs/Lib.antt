@@ -1,3 +1,4 @@
+pub mod Contents
 pub mod Powers
 pub mod Maps
 pub mod Numbers

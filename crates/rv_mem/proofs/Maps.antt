@@ -7,8 +7,8 @@ use Rattle.std.specs.Ordering.{nat_cmp, eq_by_cmp}
 use Rattle.std.proofs.lemmas.Cmp.{nat_cmp_total}
 use Rattle.std.specs.Cmp.{unsigned_tied}
 use Rattle.rv_word.specs.Memory.{numbered}
-use Rattle.rv_mem.specs.declared.region.Region.{Region}
-use Rattle.rv_mem.specs.Regions.{place_in, byte_or, first_byte, entries_of}
+use Rattle.rv_mem.specs.declared.mapped.Region.{Region}
+use Rattle.rv_mem.specs.Regions.{content, place_in, byte_or, first_byte, entries_of}
 
 -- the first of two
 abbrev or_else : Option ℕ → Option ℕ → Option ℕ
@@ -68,9 +68,9 @@ one bs at q rest =
 find_entries : (ss : List Region) (q : ℕ) → find nat_cmp q (entries_of ss) ≡ first_byte ss q
 find_entries [] q = refl
 find_entries (s ∷ ss) q =
-    find_append (numbered s.at s.bytes.items) (entries_of ss) q
-    ∙ one s.bytes.items s.at q (find nat_cmp q (entries_of ss))
-    ∙ ap (byte_or (place_in s.at (length s.bytes.items) q) s.bytes.items) (find_entries ss q)
+    find_append (numbered s.at (content s)) (entries_of ss) q
+    ∙ one (content s) s.at q (find nat_cmp q (entries_of ss))
+    ∙ ap (byte_or (place_in s.at (length (content s)) q) (content s)) (find_entries ss q)
 
 -- what the map has is the byte of the first region that holds the address
 pub get_flat : (ss : List Region) (q : ℕ) → get (from_entries {R = nat_cmp} (entries_of ss)) q ≡ first_byte ss q

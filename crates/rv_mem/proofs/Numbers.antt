@@ -4,8 +4,8 @@ use Rattle.std.specs.Prelude.{false, slice_index, IfSome}
 use Rattle.std.proofs.lemmas.Bool.{cond-false}
 use Rattle.std.specs.FinMap.{get}
 use Rattle.rv_word.specs.Memory.{Memory, cell, mapped, in_range, load, next_address, ◌>>=◌}
-use Rattle.rv_mem.specs.Regions.{place_in, place_of, byte_or, first_byte, little_endian, with_high, number_in, HasRange}
-use Rattle.rv_mem.specs.declared.region.Region.{Region}
+use Rattle.rv_mem.specs.Regions.{content, place_in, place_of, byte_or, first_byte, little_endian, with_high, number_in, HasRange}
+use Rattle.rv_mem.specs.declared.mapped.Region.{Region}
 use Rattle.rv_mem.specs.declared.region.Spot.{Spot}
 use Rattle.rv_mem.proofs.Maps.{place_in-within}
 
@@ -15,12 +15,12 @@ number_in-place (suc n) f bs base i a e h =
     ap (λ o. with_high o (number_in n f (a + 1))) (ap f e ∙ h i (omega arith) (omega arith))
     ∙ ap (with_high (Some (slice_index bs i))) (number_in-place n f bs base (i + 1) (a + 1) (omega arith) (λ j l k. h j (omega arith) (omega arith)))
 
-pub first_byte-at : (ss : List Region) (i : ℕ) (s : Region) (j : ℕ) → s ≡ get_or ss i s → i < length ss → j < length s.bytes.items → first_byte (drop i ss) (s.at + j) ≡ Some (slice_index s.bytes.items j)
+pub first_byte-at : (ss : List Region) (i : ℕ) (s : Region) (j : ℕ) → s ≡ get_or ss i s → i < length ss → j < length (content s) → first_byte (drop i ss) (s.at + j) ≡ Some (slice_index (content s) j)
 first_byte-at [] i s j e h l = absurd (omega arith)
 first_byte-at (x ∷ ss) zero s j e h l =
     let p : s.at + j - s.at ≡ j = omega arith in
-    ap (λ z. byte_or (place_in z.at (length z.bytes.items) (s.at + j)) z.bytes.items (first_byte ss (s.at + j))) (sym e)
-    ∙ ap (λ o. byte_or o s.bytes.items (first_byte ss (s.at + j))) (place_in-within s.at (length s.bytes.items) (s.at + j) (omega arith) (omega arith) ∙ ap Some p)
+    ap (λ z. byte_or (place_in z.at (length (content z)) (s.at + j)) (content z) (first_byte ss (s.at + j))) (sym e)
+    ∙ ap (λ o. byte_or o (content s) (first_byte ss (s.at + j))) (place_in-within s.at (length (content s)) (s.at + j) (omega arith) (omega arith) ∙ ap Some p)
 first_byte-at (x ∷ ss) (suc i) s j e h l = first_byte-at ss i s j e (omega arith) l
 
 with_high-is : (x y : Option ℕ) (v : ℕ) → with_high x y ≡ Some v → (b : ℕ) × (h : ℕ) × (x ≡ Some b) × (y ≡ Some h) × (b + h * 256 ≡ v)
@@ -45,14 +45,14 @@ pub first_byte-drop : (rs : List Region) (i q : ℕ) → i ≤ length rs → ((k
 first_byte-drop rs zero q l none = refl
 first_byte-drop [] (suc i) q l none = absurd (omega arith)
 first_byte-drop (r ∷ rs) (suc i) q l none =
-    ap (λ o. byte_or o r.bytes.items (first_byte rs q)) (none 0 r (omega arith)) ∙ first_byte-drop rs i q (omega arith) (λ k d h. none (suc k) d (omega arith))
+    ap (λ o. byte_or o (content r) (first_byte rs q)) (none 0 r (omega arith)) ∙ first_byte-drop rs i q (omega arith) (λ k d h. none (suc k) d (omega arith))
 
-pub number_in-spot : (rs : List Region) (a n : ℕ) (spot : Spot) (r : Region) → HasRange rs a n spot → r ≡ get_or rs spot.region r → number_in n (first_byte rs) a ≡ Some (little_endian n r.bytes.items spot.place)
+pub number_in-spot : (rs : List Region) (a n : ℕ) (spot : Spot) (r : Region) → HasRange rs a n spot → r ≡ get_or rs spot.region r → number_in n (first_byte rs) a ≡ Some (little_endian n (content r) spot.place)
 number_in-spot rs a n spot r h is =
     let at : r.at + spot.place ≡ a = ap (λ z. z.at + spot.place) is ∙ h.address r in
-    let fits : spot.place + n ≤ length r.bytes.items = subst (λ z. spot.place + n ≤ length z.bytes.items) (sym is) (h.within r) in
+    let fits : spot.place + n ≤ length (content r) = subst (λ z. spot.place + n ≤ length (content z)) (sym is) (h.within r) in
     let listed : spot.region < length rs = h.listed in
-    number_in-place n (first_byte rs) r.bytes.items r.at spot.place a (omega arith) (λ j l k. first_byte-drop rs spot.region (r.at + j) (omega arith) (λ i d lt. h.first i d (r.at + j) lt (omega arith) (omega arith)) ∙ first_byte-at rs spot.region r j is listed (omega arith))
+    number_in-place n (first_byte rs) (content r) r.at spot.place a (omega arith) (λ j l k. first_byte-drop rs spot.region (r.at + j) (omega arith) (λ i d lt. h.first i d (r.at + j) lt (omega arith) (omega arith)) ∙ first_byte-at rs spot.region r j is listed (omega arith))
 
 -- what is said of a number's value carries over to the number that a map has
 pub some_is : (o p : Option ℕ) (x : ℕ) → IfSome o (λ v. v ≡ x) → p ≡ Some x → IfSome o (λ v. p ≡ Some v)

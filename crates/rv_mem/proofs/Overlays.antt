@@ -4,8 +4,8 @@ use Rattle.std.specs.Option.{IsSome}
 use Rattle.std.specs.FinMap.{from_entries, get, same_map, nat_cmp-IsAntisymmetric}
 use Rattle.std.proofs.lemmas.Cmp.{nat_cmp_total}
 use Rattle.rv_word.specs.Memory.{Memory, in_range, load, store, put_bytes, set_byte, next_address, ◌>>=◌}
-use Rattle.rv_mem.specs.Regions.{place_in, place_of, byte_or, first_byte, entries_of, number_in, with_number, overlaid, HasRange}
-use Rattle.rv_mem.specs.declared.region.Region.{Region}
+use Rattle.rv_mem.specs.Regions.{content, place_in, place_of, byte_or, first_byte, entries_of, number_in, with_number, overlaid, HasRange}
+use Rattle.rv_mem.specs.declared.mapped.Region.{Region}
 use Rattle.rv_mem.specs.declared.region.Spot.{Spot}
 use Rattle.rv_mem.proofs.Maps.{get_flat, funext, place_in-within}
 use Rattle.rv_mem.proofs.Numbers.{loaded}
@@ -51,17 +51,17 @@ written_past (suc n) at bs v a x rest none =
     written_past n at bs (v / 256) (a + 1) x (cond (nat_eq x a) (Some b) rest) (λ q g k. none q (omega arith) (omega arith))
     ∙ ap (overlaid n (v / 256) (a + 1) x) (in_other at x a b bs rest (cond (nat_eq x a) (Some b) rest) (none a (omega arith) (omega arith)) refl)
 
-written_at : (rs : List Region) (i : ℕ) (d new : Region) (n a v place x : ℕ) → i < length rs → (get_or rs i d).at + place ≡ a → place + n ≤ length (get_or rs i d).bytes.items → ((k : ℕ) (q : ℕ) → k < i → a ≤ q → q < a + n → place_of (get_or rs k d) q ≡ None) → new.at ≡ (get_or rs i d).at → new.bytes.items ≡ with_number n (get_or rs i d).bytes.items place v → first_byte (set rs i new) x ≡ overlaid n v a x (first_byte rs x)
+written_at : (rs : List Region) (i : ℕ) (d new : Region) (n a v place x : ℕ) → i < length rs → (get_or rs i d).at + place ≡ a → place + n ≤ length (content (get_or rs i d)) → ((k : ℕ) (q : ℕ) → k < i → a ≤ q → q < a + n → place_of (get_or rs k d) q ≡ None) → new.at ≡ (get_or rs i d).at → content new ≡ with_number n (content (get_or rs i d)) place v → first_byte (set rs i new) x ≡ overlaid n v a x (first_byte rs x)
 written_at [] i d new n a v place x l at fits none ea eb = absurd (omega arith)
 written_at (r ∷ rs) zero d new n a v place x l at fits none ea eb =
-    rw (ea, eb, length-with_number n r.bytes.items place v) (written_in n r.at (length r.bytes.items) r.bytes.items place v x (first_byte rs x) refl fits ∙ ap (λ z. overlaid n v z x (first_byte (r ∷ rs) x)) at)
+    rw (ea, eb, length-with_number n (content r) place v) (written_in n r.at (length (content r)) (content r) place v x (first_byte rs x) refl fits ∙ ap (λ z. overlaid n v z x (first_byte (r ∷ rs) x)) at)
 written_at (r ∷ rs) (suc i) d new n a v place x l at fits none ea eb =
-    ap (byte_or (place_of r x) r.bytes.items) (written_at rs i d new n a v place x (omega arith) at fits (λ k q h. none (suc k) q (omega arith)) ea eb)
-    ∙ written_past n r.at r.bytes.items v a x (first_byte rs x) (λ q. none 0 q (omega arith))
+    ap (byte_or (place_of r x) (content r)) (written_at rs i d new n a v place x (omega arith) at fits (λ k q h. none (suc k) q (omega arith)) ea eb)
+    ∙ written_past n r.at (content r) v a x (first_byte rs x) (λ q. none 0 q (omega arith))
 
-pub written_spot : (rs : List Region) (spot : Spot) (d new : Region) (n a v x : ℕ) → HasRange rs a n spot → d ≡ get_or rs spot.region d → new.at ≡ d.at → new.bytes.items ≡ with_number n d.bytes.items spot.place v → first_byte (set rs spot.region new) x ≡ overlaid n v a x (first_byte rs x)
+pub written_spot : (rs : List Region) (spot : Spot) (d new : Region) (n a v x : ℕ) → HasRange rs a n spot → d ≡ get_or rs spot.region d → new.at ≡ d.at → content new ≡ with_number n (content d) spot.place v → first_byte (set rs spot.region new) x ≡ overlaid n v a x (first_byte rs x)
 written_spot rs spot d new n a v x h is ea eb =
-    written_at rs spot.region d new n a v spot.place x h.listed (h.address d) (h.within d) (λ k. h.first k d) (ea ∙ ap (λ z. z.at) is) (eb ∙ ap (λ z. with_number n z.bytes.items spot.place v) is)
+    written_at rs spot.region d new n a v spot.place x h.listed (h.address d) (h.within d) (λ k. h.first k d) (ea ∙ ap (λ z. z.at) is) (eb ∙ ap (λ z. with_number n (content z) spot.place v) is)
 
 -- ---- in the memory
 

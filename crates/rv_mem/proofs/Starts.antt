@@ -1,16 +1,16 @@
 -- How the regions of a memory that starts come to be, one by one.
 use Rattle.std.proofs.Common.{◌≡◌, ℕ, zero, suc, ◌+◌, ◌-◌, ◌<◌, ◌≤◌, List, [], ◌∷◌, ◌++◌, length, drop, get_or, refl, ap, sym, subst, ◌∙◌, arith}
 use Rattle.rv_word.specs.Memory.{flat, numbered}
-use Rattle.rv_mem.specs.declared.region.Region.{Region}
+use Rattle.rv_mem.specs.declared.mapped.Region.{Region}
 use Rattle.pn_types.specs.declared.image.Segment.{Segment}
 use Rattle.std.specs.List.{AllByRecursion}
 use Rattle.pn_types.specs.Images.{IsSegment}
-use Rattle.rv_mem.specs.Regions.{entries_of, parts_of, region_part}
+use Rattle.rv_mem.specs.Regions.{content, entries_of, parts_of, region_part}
 use Rattle.rv_mem.specs.Start.{segment_part, segment_parts, heap_part, stack_part, stack_parts}
 
 pub entries_of-flat : (rs : List Region) → entries_of rs ≡ flat (parts_of rs)
 entries_of-flat [] = refl
-entries_of-flat (r ∷ rs) = ap (λ es. numbered r.at r.bytes.items ++ es) (entries_of-flat rs)
+entries_of-flat (r ∷ rs) = ap (λ es. numbered r.at (content r) ++ es) (entries_of-flat rs)
 
 -- a region more, before what is to come
 parts_of-push : (rs : List Region) (r : Region) (rest : List (ℕ × List ℕ)) → parts_of (rs ++ r ∷ []) ++ rest ≡ parts_of rs ++ region_part r ∷ rest

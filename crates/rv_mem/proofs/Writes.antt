@@ -10,8 +10,8 @@ use Rattle.std.specs.Cmp.{unsigned_tied}
 use Rattle.rv_word.specs.declared.outcome.MemStop.{MemStop}
 use Rattle.rv_word.specs.declared.outcome.MemStop.TheVariants.{InText}
 use Rattle.rv_word.specs.Memory.{Memory, cell, mapped, in_range, set_byte, load, next_address, ◌>>=◌}
-use Rattle.rv_mem.specs.Regions.{place_in, place_of, byte_or, first_byte}
-use Rattle.rv_mem.specs.declared.region.Region.{Region}
+use Rattle.rv_mem.specs.Regions.{content, place_in, place_of, byte_or, first_byte}
+use Rattle.rv_mem.specs.declared.mapped.Region.{Region}
 
 place_in-is : (at len a place : ℕ) → place_in at len a ≡ Some place → (a ≡ at + place) × (place < len)
 place_in-is at len a place e = grind arith
@@ -22,23 +22,23 @@ in_first at x a b place items rest e = grind (arith, common_steps, place_in-is a
 pub in_other : (at x a b : ℕ) (items : List ℕ) (rest new : Option ℕ) → place_in at (length items) a ≡ None → new ≡ cond (nat_eq x a) (Some b) rest → byte_or (place_in at (length items) x) items new ≡ cond (nat_eq x a) (Some b) (byte_or (place_in at (length items) x) items rest)
 in_other at x a b items rest new e n = grind (arith, common_steps)
 
-pub put_at : (segs : List Region) (i : ℕ) (d new : Region) (a b place x : ℕ) → i < length segs → ((k : ℕ) → k < i → place_of (get_or segs k d) a ≡ None) → place_of (get_or segs i d) a ≡ Some place → new.at ≡ (get_or segs i d).at → new.bytes.items ≡ set (get_or segs i d).bytes.items place b → first_byte (set segs i new) x ≡ cond (nat_eq x a) (Some b) (first_byte segs x)
+pub put_at : (segs : List Region) (i : ℕ) (d new : Region) (a b place x : ℕ) → i < length segs → ((k : ℕ) → k < i → place_of (get_or segs k d) a ≡ None) → place_of (get_or segs i d) a ≡ Some place → new.at ≡ (get_or segs i d).at → content new ≡ set (content (get_or segs i d)) place b → first_byte (set segs i new) x ≡ cond (nat_eq x a) (Some b) (first_byte segs x)
 put_at [] i d new a b place x h before e ea eb = absurd (omega arith)
 put_at (s ∷ ss) zero d new a b place x h before e ea eb =
-    rw (ea, eb, length-set) (in_first s.at x a b place s.bytes.items (first_byte ss x) e)
+    rw (ea, eb, length-set) (in_first s.at x a b place (content s) (first_byte ss x) e)
 put_at (s ∷ ss) (suc i) d new a b place x h before e ea eb =
-    in_other s.at x a b s.bytes.items (first_byte ss x) (first_byte (set ss i new) x) (before 0 (omega arith)) (put_at ss i d new a b place x (omega arith) (λ k h. before (suc k) (omega arith)) e ea eb)
+    in_other s.at x a b (content s) (first_byte ss x) (first_byte (set ss i new) x) (before 0 (omega arith)) (put_at ss i d new a b place x (omega arith) (λ k h. before (suc k) (omega arith)) e ea eb)
 
 pub none_in : (segs : List Region) (d : Region) (a : ℕ) → ((k : ℕ) → k < length segs → place_of (get_or segs k d) a ≡ None) → first_byte segs a ≡ None
 none_in [] d a none = refl
 none_in (s ∷ ss) d a none = rw (none 0 (omega arith)) (none_in ss d a (λ k h. none (suc k) (omega arith)))
 
-pub put_found : (segs old : List Region) (i : ℕ) (s d new : Region) (a b place : ℕ) → i < length segs → ((k : ℕ) (e : Region) → k < i → place_of (get_or segs k e) a ≡ None) → s ≡ get_or segs i s → Some place ≡ place_of s a → d ≡ get_or segs i d → new.at ≡ d.at → new.bytes.items ≡ set d.bytes.items place b → segs ≡ old → (x : ℕ) → first_byte (set segs i new) x ≡ cond (nat_eq x a) (Some b) (first_byte old x)
+pub put_found : (segs old : List Region) (i : ℕ) (s d new : Region) (a b place : ℕ) → i < length segs → ((k : ℕ) (e : Region) → k < i → place_of (get_or segs k e) a ≡ None) → s ≡ get_or segs i s → Some place ≡ place_of s a → d ≡ get_or segs i d → new.at ≡ d.at → content new ≡ set (content d) place b → segs ≡ old → (x : ℕ) → first_byte (set segs i new) x ≡ cond (nat_eq x a) (Some b) (first_byte old x)
 put_found segs old i s d new a b place h before es e ed ea eb same x =
     let es' : s ≡ get_or segs i d = es ∙ get_or_default segs i s d h in
     let e' : place_of (get_or segs i d) a ≡ Some place = subst (λ z. place_of z a ≡ Some place) es' (sym e) in
     let ea' : new.at ≡ (get_or segs i d).at = ea ∙ ap (λ z. z.at) ed in
-    let eb' : new.bytes.items ≡ set (get_or segs i d).bytes.items place b = eb ∙ ap (λ z. set z.bytes.items place b) ed in
+    let eb' : content new ≡ set (content (get_or segs i d)) place b = eb ∙ ap (λ z. set (content z) place b) ed in
     subst (λ z. first_byte (set segs i new) x ≡ cond (nat_eq x a) (Some b) (first_byte z x)) same (put_at segs i d new a b place x h (λ k lt. before k d lt) e' ea' eb')
 
 -- where nothing has the address, no byte is there

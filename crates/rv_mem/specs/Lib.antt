@@ -1,3 +1,4 @@
+pub mod Quick
 pub mod Regions
 pub mod Start
 pub mod Windows

@@ -1,16 +1,20 @@
 -- For proofs alone: what regions of bytes hold. Where several have an address, the first counts.
-use Rattle.std.specs.Prelude.{ℕ, zero, suc, ◌≡◌, ◌<◌, ◌≤◌, ◌+◌, ◌*◌, ◌-◌, ◌/◌, ◌%◌, nat_eq, nat_lt, nat_le, if◌then◌else◌, List, [], ◌∷◌, ◌++◌, length, slice_index, slice_index_or, slice_set, Option, Some, None}
+use Rattle.std.specs.Prelude.{ℕ, zero, suc, ◌≡◌, ◌<◌, ◌≤◌, ◌+◌, ◌*◌, ◌-◌, ◌/◌, ◌%◌, nat_eq, nat_lt, nat_le, if◌then◌else◌, List, [], ◌∷◌, ◌++◌, length, replicate, slice_index, slice_index_or, slice_set, Option, Some, None}
 use Rattle.rv_word.specs.Memory.{numbered}
-use Rattle.rv_mem.specs.declared.region.Region.{Region}
+use Rattle.rv_mem.specs.declared.mapped.Region.{Region}
 use Rattle.rv_mem.specs.declared.region.Spot.{Spot}
 
 -- the place of the address a in len bytes from at
 abbrev pub place_in : ℕ → ℕ → ℕ → Option ℕ
 place_in at len a = if nat_lt a at then None else if nat_le len (a - at) then None else Some (a - at)
 
+-- the bytes of a region, the zeros that weren't written too
+abbrev pub content : Region → List ℕ
+content r = r.bytes.items ++ replicate r.behind 0
+
 -- the place of the address a in a region
 abbrev pub place_of : Region → ℕ → Option ℕ
-place_of r a = place_in r.at (length r.bytes.items) a
+place_of r a = place_in r.at (length (content r)) a
 
 -- the byte at a place, or else the rest's
 abbrev pub byte_or : Option ℕ → List ℕ → Option ℕ → Option ℕ
@@ -20,16 +24,16 @@ byte_or (Some i) bytes rest = Some (slice_index bytes i)
 -- the byte of the first region that has the address a
 abbrev pub first_byte : List Region → ℕ → Option ℕ
 first_byte [] a = None
-first_byte (r ∷ rs) a = byte_or (place_of r a) r.bytes.items (first_byte rs a)
+first_byte (r ∷ rs) a = byte_or (place_of r a) (content r) (first_byte rs a)
 
 -- the bytes of the regions with their addresses
 abbrev pub entries_of : List Region → List (ℕ × ℕ)
 entries_of [] = []
-entries_of (r ∷ rs) = numbered r.at r.bytes.items ++ entries_of rs
+entries_of (r ∷ rs) = numbered r.at (content r) ++ entries_of rs
 
 -- a region as a part of memory, an address and the bytes from there
 abbrev pub region_part : Region → ℕ × List ℕ
-region_part r = (r.at, r.bytes.items)
+region_part r = (r.at, content r)
 
 abbrev pub parts_of : List Region → List (ℕ × List ℕ)
 parts_of [] = []
@@ -55,8 +59,12 @@ number_in (suc n) f a = with_high (f a) (number_in n f (a + 1))
 pub record HasRange (rs : List Region) (a n : ℕ) (spot : Spot) : Type 0 where
   pub listed : spot.region < length rs
   pub address : (d : Region) → (slice_index_or rs spot.region d).at + spot.place ≡ a
-  pub within : (d : Region) → spot.place + n ≤ length (slice_index_or rs spot.region d).bytes.items
+  pub within : (d : Region) → spot.place + n ≤ length (content (slice_index_or rs spot.region d))
   pub first : (k : ℕ) (d : Region) (q : ℕ) → k < spot.region → a ≤ q → q < a + n → place_of (slice_index_or rs k d) q ≡ None
+
+-- all of them were written
+abbrev pub IsWrittenSpot : List Region → ℕ → Spot → Type 0
+IsWrittenSpot rs n spot = (d : Region) → spot.place + n ≤ length (slice_index_or rs spot.region d).bytes.items
 
 -- a list with the lowest n bytes of v from place i, the lowest first
 abbrev pub with_number : ℕ → List ℕ → ℕ → ℕ → List ℕ

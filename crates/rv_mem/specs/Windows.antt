@@ -1,32 +1,30 @@
 -- For proofs alone: windows, which are parts of regions in which an access needs one test alone.
-use Rattle.std.specs.Prelude.{ℕ, ◌≡◌, ◌<◌, ◌≤◌, ◌+◌, ◌-◌, ◌%◌, ◌^◌, ◌⊎◌, EachIndex, List, length, slice_index, slice_index_or, None, false}
+use Rattle.std.specs.Prelude.{ℕ, ◌≡◌, ◌<◌, ◌≤◌, ◌+◌, ◌-◌, ◌%◌, ◌^◌, ◌⊎◌, EachIndex, List, length, min, slice_index, slice_index_or, None, false}
 use Rattle.rv_word.specs.Memory.{in_range}
-use Rattle.rv_mem.specs.Regions.{place_of}
-use Rattle.rv_mem.specs.declared.region.Region.{Region}
-use Rattle.rv_mem.specs.declared.window.Window.{Window}
+use Rattle.rv_mem.specs.Regions.{content, place_of}
+use Rattle.rv_mem.specs.declared.mapped.Region.{Region}
+use Rattle.rv_mem.specs.declared.mapped.Window.{Window}
 
 -- the window's addresses are those of region i, none is in the text, and no region before has one of them
 pub record IsClear (text_at text_len : ℕ) (rs : List Region) (i : ℕ) (w : Window) : Type 0 where
   pub listed : i < length rs
   pub begins : (d : Region) (q : ℕ) → w.from ≤ q → q < w.to → (slice_index_or rs i d).at ≤ q
-  pub ends : (d : Region) (q : ℕ) → w.from ≤ q → q < w.to → q < (slice_index_or rs i d).at + length (slice_index_or rs i d).bytes.items
+  pub ends : (d : Region) (q : ℕ) → w.from ≤ q → q < w.to → q < (slice_index_or rs i d).at + length (content (slice_index_or rs i d))
   pub apart : (q : ℕ) → w.from ≤ q → q < w.to → in_range text_at text_len q ≡ false
   pub first : (k : ℕ) (d : Region) (q : ℕ) → k < i → w.from ≤ q → q < w.to → place_of (slice_index_or rs k d) q ≡ None
 
--- an access of at most 8 bytes at one of `len` addresses, from `from` on, is in a window of region i
-pub record IsQuick (text_at text_len : ℕ) (rs : List Region) (i from len : ℕ) : Type 0 where
-  pub clear : IsClear text_at text_len rs i (record { from = from; to = from + len + 7 })
-  pub fits : from + len + 7 < 2 ^ 64
+-- each region's window is one of it
+abbrev pub AreClearWindows : ℕ → ℕ → List Region → Type 0
+AreClearWindows text_at text_len rs = (i : ℕ) (d : Region) → i < length rs → IsClear text_at text_len rs i (slice_index_or rs i d).window
 
--- so it is at the quick addresses of each region
-abbrev pub AreQuick : ℕ → ℕ → List Region → Type 0
-AreQuick text_at text_len rs =
-    (i : ℕ) (d : Region) → i < length rs → 0 < (slice_index_or rs i d).quick_len → IsQuick text_at text_len rs i (slice_index_or rs i d).quick_from (slice_index_or rs i d).quick_len
+-- the quick addresses are those from which 8 bytes stay in the window and in what was written
+abbrev pub HasQuickLen : Region → Type 0
+HasQuickLen r = r.quick_len ≡ min r.window.to (r.at + length r.bytes.items) - r.window.from - 7
 
--- the distance of the address a from the first quick address of region i, which wraps, is below their number
+-- the distance of the address a from the first address of the window of region i, which wraps, is below the number of quick addresses
 pub record IsQuickAt (rs : List Region) (a i : ℕ) : Type 0 where
   pub listed : i < length rs
-  pub near : (d : Region) → (a + (2 ^ 64 - (slice_index_or rs i d).quick_from)) % 2 ^ 64 < (slice_index_or rs i d).quick_len
+  pub near : (d : Region) → (a + (2 ^ 64 - (slice_index_or rs i d).window.from)) % 2 ^ 64 < (slice_index_or rs i d).quick_len
 
 -- the n bytes from the address a are in a window of region i
 pub record HasWindow (text_at text_len : ℕ) (rs : List Region) (a n i : ℕ) : Type 0 where
@@ -35,6 +33,7 @@ pub record HasWindow (text_at text_len : ℕ) (rs : List Region) (a n i : ℕ) :
   pub begins : window.from ≤ a
   pub here : a < window.to
   pub ends : a + n ≤ window.to
+  pub written : (d : Region) → a + n ≤ (slice_index_or rs i d).at + length (slice_index_or rs i d).bytes.items
   pub fits : a + n < 2 ^ 64
 
 -- ---- pages
@@ -49,16 +48,19 @@ IsNotedIn old new number k = (slice_index new k ≡ slice_index old k) ⊎ (slic
 
 -- ---- changes
 
+-- a region with the same addresses and the same window
+pub record HasBounds (r new : Region) : Type 0 where
+  pub begins : new.at ≡ r.at
+  pub lengths : length (content new) ≡ length (content r)
+  pub windows : new.window ≡ r.window
+
 -- regions with the same addresses
 pub record SamePlaces (rs new : List Region) : Type 0 where
   pub many : length new ≡ length rs
   pub begins : (k : ℕ) (d : Region) → (slice_index_or new k d).at ≡ (slice_index_or rs k d).at
-  pub lengths : (k : ℕ) (d : Region) → length (slice_index_or new k d).bytes.items ≡ length (slice_index_or rs k d).bytes.items
+  pub lengths : (k : ℕ) (d : Region) → length (content (slice_index_or new k d)) ≡ length (content (slice_index_or rs k d))
 
--- and with the same quick ones
+-- and with the same windows
 pub record SameShape (rs new : List Region) : Type 0 where
   pub many : length new ≡ length rs
-  pub begins : (k : ℕ) (d : Region) → (slice_index_or new k d).at ≡ (slice_index_or rs k d).at
-  pub lengths : (k : ℕ) (d : Region) → length (slice_index_or new k d).bytes.items ≡ length (slice_index_or rs k d).bytes.items
-  pub froms : (k : ℕ) (d : Region) → (slice_index_or new k d).quick_from ≡ (slice_index_or rs k d).quick_from
-  pub counts : (k : ℕ) (d : Region) → (slice_index_or new k d).quick_len ≡ (slice_index_or rs k d).quick_len
+  pub bounds : (k : ℕ) (d : Region) → HasBounds (slice_index_or rs k d) (slice_index_or new k d)

@@ -1,6 +1,7 @@
 //! The memory of a program: the segments of its image, a heap and a stack for each hart. No access may touch the text.
 #![tactic(auto)]
 
+mod mapped;
 mod mem;
 mod region;
 mod start;

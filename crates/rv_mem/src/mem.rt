@@ -4,10 +4,9 @@ ghost use Rattle.std.specs.Prelude.{◌≡◌, ◌<◌, ◌≤◌, ◌^◌, ℕ,
 ghost use Rattle.rv_word.specs.Memory.{cell, in_range, load, store, put_bytes, set_byte, bytes_at, memory_of};
 ghost use Rattle.rv_mem.specs.Regions.{parts_of};
 
-use crate::region::{
-    Region, Spot, find_byte, find_number, number_at, put_at, put_byte, put_number,
-};
-use crate::window::{find_quick, note_windows, pages_of};
+use crate::mapped::Region;
+use crate::region::{Spot, find_byte, find_number, number_at, put_at, put_byte, put_number};
+use crate::window::{find_quick, pages_of, set_windows};
 use pn_types::NoMemory;
 use rv_word::MemStop;
 use std::alloc::Global;
@@ -29,7 +28,7 @@ impl Model for Mem {
     ghost use Rattle.rv_word.specs.Memory.{Memory, memory_code};
     ghost use Rattle.rv_mem.specs.Regions.{entries_of};
     ghost use Rattle.std.specs.Prelude.{length};
-    ghost use Rattle.rv_mem.specs.Windows.{AreRegionNumbers, AreQuick};
+    ghost use Rattle.rv_mem.specs.Windows.{AreClearWindows, AreRegionNumbers};
 
     ghost Value = { Memory };
 
@@ -37,7 +36,7 @@ impl Model for Mem {
 
     ghost view = { λ m. record { text_at = m.text_at; text_len = m.text_len; cells = from_entries (entries_of m.regions.items) } };
 
-    ghost invariant = { λ m. AreQuick m.text_at m.text_len m.regions.items × AreRegionNumbers (length m.regions.items) m.pages.items };
+    ghost invariant = { λ m. AreClearWindows m.text_at m.text_len m.regions.items × AreRegionNumbers (length m.regions.items) m.pages.items };
 }
 
 /// Whether the address is one of `len` from the start.
@@ -65,7 +64,7 @@ impl Mem {
     ) -> Result<Mem, NoMemory>
         ensures { IfOk result (λ mem. mem ≡ memory_of text_at text_len (parts_of regions.items)) }
     {
-        note_windows(&mut regions, text_at, text_len);
+        set_windows(&mut regions, text_at, text_len);
         let pages = pages_of(alloc, &regions, pages)?;
         Ok(Mem {
             regions,

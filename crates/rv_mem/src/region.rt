@@ -1,22 +1,11 @@
 //! Runs of mapped bytes.
 
-ghost use Rattle.std.specs.Prelude.{◌≡◌, ◌+◌, ◌<◌, ◌≤◌, ◌^◌, ℕ, cond, nat_eq, Some, None, length, IfSome, true, false};
+ghost use Rattle.std.specs.Prelude.{◌≡◌, ◌+◌, ◌<◌, ◌≤◌, ◌^◌, ◌++◌, ℕ, cond, nat_eq, Some, None, length, replicate, set, slice_index, vec_capacity, IfSome, true, false};
 ghost use Rattle.std.specs.Option.{IsSome};
-ghost use Rattle.rv_mem.specs.Regions.{first_byte, place_of, region_part, little_endian, number_in, with_number, overlaid, HasRange};
-ghost use Rattle.rv_mem.specs.Windows.{SameShape};
+ghost use Rattle.rv_mem.specs.Regions.{content, first_byte, place_of, region_part, little_endian, number_in, with_number, overlaid, HasRange, IsWrittenSpot};
+ghost use Rattle.rv_mem.specs.Windows.{HasBounds, HasQuickLen, SameShape};
 
-/// A run of mapped bytes.
-#[derive(Drop)]
-pub struct Region {
-    /// The first address.
-    pub at: u64,
-    /// The bytes from there on.
-    pub bytes: Vec<u8>,
-    /// The first address at which an access is quick.
-    pub quick_from: u64,
-    /// At how many addresses from there on an access is quick: one of up to 8 bytes touches this region alone there, and no text.
-    pub quick_len: u64,
-}
+use crate::mapped::{Region, Window};
 
 /// A place in the bytes of one of several regions.
 #[derive(Clone, Copy, Drop)]
@@ -27,24 +16,39 @@ pub struct Spot {
     pub place: usize,
 }
 
+/// The greatest length of an access, in bytes.
+const MAX_LEN: u64 = 8;
+
+/// Zeros are written up to a multiple of this, so that it is seldom done.
+const STEP: usize = 4_096;
+
 impl Region {
-    /// The bytes from an address on, where no access is quick.
-    pub fn new(at: u64, bytes: Vec<u8>) -> Region
-        ensures { region_part result ≡ (at, bytes.items) }
+    /// These bytes from an address on and `behind` zeros, where no access is quick.
+    pub fn new(at: u64, bytes: Vec<u8>, behind: usize) -> Region
+        requires { length bytes.items + behind ≤ vec_capacity bytes }
+        ensures { region_part result ≡ (at, bytes.items ++ replicate behind 0) }
     {
         Region {
             at,
             bytes,
-            quick_from: 0,
+            behind,
+            window: Window { from: 0, to: 0 },
             quick_len: 0,
         }
+    }
+
+    /// How many bytes are mapped.
+    pub fn len(&self) -> usize
+        ensures { result ≡ length (content self.now) }
+    {
+        self.bytes.len() + self.behind
     }
 
     /// The place of the address in the region, if it is there.
     fn place_of(&self, at: u64) -> Option<usize>
         ensures { result ≡ place_of self.now at }
     {
-        if at < self.at || self.bytes.len() as u64 <= at - self.at {
+        if at < self.at || self.len() as u64 <= at - self.at {
             None
         } else {
             Some((at - self.at) as usize)
@@ -55,19 +59,112 @@ impl Region {
     pub fn has_any(&self, at: u64, end: u64) -> bool
         ensures { result ≡ false → (q : ℕ) → at ≤ q → q < end → place_of self.now q ≡ None }
     {
-        self.at < end && at.saturating_sub(self.at) < self.bytes.len() as u64
+        self.at < end && at.saturating_sub(self.at) < self.len() as u64
     }
 
     /// The place of the address in the region, if it and the next are there, `n` in all.
     fn place_of_all(&self, at: u64, n: u32) -> Option<usize>
         ensures address { IfSome result (λ place. self.now.at + place ≡ at) }
-        ensures within { IfSome result (λ place. place + n ≤ length self.now.bytes.items) }
+        ensures within { IfSome result (λ place. place + n ≤ length (content self.now)) }
     {
         let place = self.place_of(at)?;
-        if self.bytes.len() - place < n as usize {
+        if self.len() - place < n as usize {
             return None;
         }
         Some(place)
+    }
+
+    /// The byte at a place.
+    fn byte(&self, place: usize) -> u8
+        ensures { result ≡ slice_index (content self.now) place }
+    {
+        if place < self.bytes.len() {
+            self.bytes[place]
+        } else {
+            0
+        }
+    }
+
+    /// Whether the `n` bytes from the place on were written.
+    fn is_written(&self, place: usize, n: u32) -> bool
+        ensures { result ≡ true → place + n ≤ length self.now.bytes.items }
+    {
+        let len = self.bytes.len();
+        place < len && n as usize <= len - place
+    }
+
+    /// The number in the `n` bytes from the place on, the lowest first, where all of them were written or none.
+    fn number(&self, place: usize, n: u32) -> Option<u64>
+        ensures value { IfSome result (λ v. v ≡ little_endian n (content self.now) place) }
+        ensures bound { IfSome result (λ v. v < 256 ^ n) }
+    {
+        if self.bytes.len() <= place {
+            return Some(0);
+        }
+        if !self.is_written(place, n) {
+            return None;
+        }
+        number_at(&self.bytes, place, n)
+    }
+
+    /// Sets the quick addresses by the window and the bytes.
+    fn set_quick_len(&mut self)
+        ensures bounds { HasBounds self.old self.new }
+        ensures same { content self.new ≡ content self.old }
+        ensures bytes { self.new.bytes ≡ self.old.bytes }
+        ensures quick { HasQuickLen self.new }
+    {
+        let end = self.at.saturating_add(self.bytes.len() as u64);
+        let to = self.window.to.min(end);
+        self.quick_len = to
+            .saturating_sub(self.window.from)
+            .saturating_sub(MAX_LEN - 1);
+    }
+
+    /// Gives the region a window.
+    pub fn set_window(&mut self, window: Window)
+        ensures part { region_part self.new ≡ region_part self.old }
+        ensures window { self.new.window ≡ window }
+        ensures quick { HasQuickLen self.new }
+    {
+        self.window = window;
+        self.quick_len = 0;
+        self.set_quick_len();
+    }
+
+    /// Writes zeros up to a place that wasn't written, and to the end of its step. There is room for them.
+    fn write_zeros(&mut self, place: usize)
+        requires { place < length (content self.old) }
+        ensures bounds { HasBounds self.old self.new }
+        ensures same { content self.new ≡ content self.old }
+        ensures written { place < length self.new.bytes.items }
+    {
+        let all = self.len();
+        let count = ((place / STEP + 1) * STEP).min(all);
+        if self.bytes.len() < count && self.bytes.resize(count, 0).is_ok() {
+            self.behind = all - count;
+            self.set_quick_len();
+        }
+    }
+
+    /// Puts a byte at a place.
+    fn set(&mut self, place: usize, byte: u8)
+        requires { place < length (content self.old) }
+        ensures bounds { HasBounds self.old self.new }
+        ensures set { content self.new ≡ set (content self.old) place byte }
+    {
+        self.write_zeros(place);
+        self.bytes[place] = byte;
+    }
+
+    /// Puts the lowest `n` bytes of the number at a place, the lowest first, where all of these bytes were written.
+    #[inline(always)]
+    fn put(&mut self, place: usize, n: u32, v: u64)
+        requires { place + n ≤ length self.old.bytes.items }
+        ensures bounds { HasBounds self.old self.new }
+        ensures put { content self.new ≡ with_number n (content self.old) place v }
+    {
+        write_at(&mut self.bytes, place, n, v);
     }
 }
 
@@ -77,7 +174,7 @@ pub fn find_byte(regions: &Vec<Region>, at: u64) -> Option<u8>
 {
     for region in regions {
         if let Some(place) = region.place_of(at) {
-            return Some(region.bytes[place]);
+            return Some(region.byte(place));
         }
     }
     None
@@ -137,7 +234,7 @@ pub fn find_number(regions: &Vec<Region>, at: u64, n: u32) -> Option<u64>
     ensures bound { IfSome result (λ v. v < 256 ^ n) }
 {
     let spot = find_range(regions, at, n)?;
-    number_at(&regions[spot.region].bytes, spot.place, n)
+    regions[spot.region].number(spot.place, n)
 }
 
 /// Writes the lowest `n` bytes of the number at the place, the lowest first.
@@ -156,16 +253,17 @@ fn write_at(bytes: &mut [u8], place: usize, n: u32, v: u64)
 /// Puts the lowest `n` bytes of the number from the address on, at their spot.
 #[inline(always)]
 pub fn put_at(regions: &mut Vec<Region>, spot: Spot, at: u64, n: u32, v: u64)
-    requires { HasRange regions.old.items at n spot }
+    requires range { HasRange regions.old.items at n spot }
+    requires written { IsWrittenSpot regions.old.items n spot }
     ensures there { IsSome (number_in n (first_byte regions.old.items) at) }
     ensures put { (q : ℕ) → first_byte regions.new.items q ≡ overlaid n v at q (first_byte regions.old.items q) }
     ensures shape { SameShape regions.old.items regions.new.items }
 {
-    write_at(&mut regions[spot.region].bytes, spot.place, n, v);
+    regions[spot.region].put(spot.place, n, v);
 }
 
-/// Puts the lowest `n` bytes of the number from the address on, and returns true, where one region has all these addresses and
-/// none before it has any of them. Else it does nothing.
+/// Puts the lowest `n` bytes of the number from the address on, and returns true, where one region has all these addresses,
+/// none before it has any of them, and all their bytes were written. Else it does nothing.
 pub fn put_number(regions: &mut Vec<Region>, at: u64, n: u32, v: u64) -> bool
     requires { at + n < 2 ^ 64 }
     ensures there { result ≡ true → IsSome (number_in n (first_byte regions.old.items) at) }
@@ -173,13 +271,13 @@ pub fn put_number(regions: &mut Vec<Region>, at: u64, n: u32, v: u64) -> bool
     ensures unchanged { result ≡ false → regions.new ≡ regions.old }
     ensures shape { SameShape regions.old.items regions.new.items }
 {
-    match find_range(regions, at, n) {
-        Some(spot) => {
+    if let Some(spot) = find_range(regions, at, n) {
+        if regions[spot.region].is_written(spot.place, n) {
             put_at(regions, spot, at, n, v);
-            true
+            return true;
         }
-        None => false,
     }
+    false
 }
 
 /// Puts a byte into the first region that has the address.
@@ -190,7 +288,7 @@ pub fn put_byte(regions: &mut Vec<Region>, at: u64, byte: u8)
 {
     for i in 0..regions.len() {
         if let Some(place) = regions[i].place_of(at) {
-            regions[i].bytes[place] = byte;
+            regions[i].set(place, byte);
             return;
         }
     }

@@ -5,8 +5,8 @@ ghost use Rattle.pn_types.specs.Images.{IsImage};
 ghost use Rattle.rv_mem.specs.Regions.{region_part};
 ghost use Rattle.rv_mem.specs.Start.{segment_part, start_memory, heap_len, stack_len};
 
+use crate::mapped::Region;
 use crate::mem::Mem;
-use crate::region::Region;
 use pn_types::{Image, MAX_HARTS, NoMemory, SEGMENTS_TO, Segment};
 use std::alloc::Global;
 
@@ -28,17 +28,11 @@ pub const STACK_LEN: usize = 65_536;
 /// How many pages of 4,096 bytes there are from address 0 to the end of the last stack.
 const PAGES: usize = ((FIRST_STACK_AT + MAX_HARTS as u64 * STACK_DISTANCE) / 4_096) as usize;
 
-fn zeros(alloc: Global, len: usize) -> Result<Vec<u8>, NoMemory>
-    ensures { IfOk result (λ bytes. bytes.items ≡ replicate len 0) }
-{
-    vec![in alloc; 0; len]
-}
-
-/// A region of zeros.
+/// A region of zeros, of which none is written.
 fn empty_region(alloc: Global, at: u64, len: usize) -> Result<Region, NoMemory>
     ensures { IfOk result (λ region. region_part region ≡ (at, replicate len 0)) }
 {
-    Ok(Region::new(at, zeros(alloc, len)?))
+    Ok(Region::new(at, Vec::with_capacity(alloc, len)?, len))
 }
 
 /// The bytes of the segment, and zeros to its size.
@@ -49,7 +43,7 @@ fn segment_region(alloc: Global, segment: &Segment) -> Result<Region, NoMemory>
     let mut bytes = Vec::with_capacity(alloc, segment.size as usize)?;
     bytes.extend_from_slice(segment.bytes.as_slice())?;
     bytes.resize(segment.size as usize, 0)?;
-    Ok(Region::new(segment.at, bytes))
+    Ok(Region::new(segment.at, bytes, 0))
 }
 
 /// The memory at the start, where proofs see no length of heap and stack as a numeral.

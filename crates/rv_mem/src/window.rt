@@ -1,40 +1,13 @@
 //! Windows: of each region the part in which an access needs one test alone.
 
-ghost use Rattle.std.specs.Prelude.{◌≡◌, ◌<◌, ◌≤◌, ◌-◌, ℕ, EachIndex, IfOk, IfSome, length, false};
+ghost use Rattle.std.specs.Prelude.{◌≡◌, ◌<◌, ◌≤◌, ℕ, EachIndex, IfOk, IfSome, length, false};
 ghost use Rattle.rv_word.specs.Memory.{in_range};
-ghost use Rattle.rv_mem.specs.Windows.{IsClear, AreRegionNumbers, AreQuick, IsNotedIn, IsQuickAt};
-ghost use Rattle.rv_mem.specs.Regions.{parts_of, region_part};
+ghost use Rattle.rv_mem.specs.Windows.{AreClearWindows, AreRegionNumbers, IsClear, IsNotedIn, IsQuickAt};
+ghost use Rattle.rv_mem.specs.Regions.{parts_of};
 
-use crate::region::Region;
+use crate::mapped::{Region, Window};
 use pn_types::NoMemory;
 use std::alloc::Global;
-
-/// The greatest length of an access, in bytes.
-const MAX_LEN: u64 = 8;
-
-/// Addresses of one region, of which none is in the text and none in a region before it.
-#[derive(Clone, Copy, Drop)]
-pub struct Window {
-    /// The first address.
-    pub from: u64,
-    /// The address after the last.
-    pub to: u64,
-}
-
-impl Region {
-    /// Notes that an access is quick where it stays in the window.
-    fn note(&mut self, window: Window)
-        ensures part { region_part self.new ≡ region_part self.old }
-        ensures from { self.new.quick_from ≡ window.from }
-        ensures len { self.new.quick_len ≡ window.to - window.from - 7 }
-    {
-        self.quick_from = window.from;
-        self.quick_len = window
-            .to
-            .saturating_sub(window.from)
-            .saturating_sub(MAX_LEN - 1);
-    }
-}
 
 /// The part of the window before the text or the one after it, whichever is longer.
 fn beside_text(window: Window, text_at: u64, text_len: u64) -> Window
@@ -65,7 +38,7 @@ fn window_of(regions: &Vec<Region>, i: usize, text_at: u64, text_len: u64) -> Wi
     ensures { IsClear text_at text_len regions.now.items i result }
 {
     let at = regions[i].at;
-    let end = at.saturating_add(regions[i].bytes.len() as u64);
+    let end = at.saturating_add(regions[i].len() as u64);
     let window = beside_text(Window { from: at, to: end }, text_at, text_len);
     for k in 0..i {
         if regions[k].has_any(window.from, window.to) {
@@ -75,27 +48,28 @@ fn window_of(regions: &Vec<Region>, i: usize, text_at: u64, text_len: u64) -> Wi
     window
 }
 
-/// Notes in each region at which addresses an access is quick.
-pub fn note_windows(regions: &mut Vec<Region>, text_at: u64, text_len: u64)
+/// Gives each region its window.
+pub fn set_windows(regions: &mut Vec<Region>, text_at: u64, text_len: u64)
     ensures parts { parts_of regions.new.items ≡ parts_of regions.old.items }
-    ensures quick { AreQuick text_at text_len regions.new.items }
+    ensures clear { AreClearWindows text_at text_len regions.new.items }
 {
     for i in 0..regions.len() {
         let window = window_of(regions, i, text_at, text_len);
-        regions[i].note(window);
+        regions[i].set_window(window);
     }
 }
 
-/// Notes the region's number at the pages of its quick addresses.
+/// Notes the region's number at the pages of its window.
 fn note_pages(pages: &mut Vec<u8>, region: &Region, number: u8)
     ensures len { length pages.new.items ≡ length pages.old.items }
     ensures noted { EachIndex pages.new.items (IsNotedIn pages.old.items pages.new.items number) }
 {
-    if region.quick_len == 0 {
+    let window = region.window;
+    if window.to <= window.from {
         return;
     }
-    let first = region.quick_from >> 12;
-    let last = region.quick_from.saturating_add(region.quick_len - 1) >> 12;
+    let first = window.from >> 12;
+    let last = (window.to - 1) >> 12;
     for page in first..last + 1 {
         if page >= pages.len() as u64 {
             return;
@@ -125,7 +99,7 @@ pub fn pages_of(alloc: Global, regions: &Vec<Region>, count: usize) -> Result<Ve
     Ok(pages)
 }
 
-/// The number of the region of the address's page, where an access at the address is quick. The distance from the first quick address
+/// The number of the region of the address's page, where an access at the address is quick. The distance from the window's first address
 /// wraps where the address is before it, so that one test finds both ends.
 #[inline(always)]
 pub fn find_quick(pages: &Vec<u8>, regions: &Vec<Region>, at: u64) -> Option<usize>
@@ -137,7 +111,7 @@ pub fn find_quick(pages: &Vec<u8>, regions: &Vec<Region>, at: u64) -> Option<usi
         return None;
     }
     let i = pages[page] as usize;
-    if at.wrapping_sub(regions[i].quick_from) < regions[i].quick_len {
+    if at.wrapping_sub(regions[i].window.from) < regions[i].quick_len {
         Some(i)
     } else {
         None

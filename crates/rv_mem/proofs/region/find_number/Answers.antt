@@ -1,5 +1,4 @@
-use Rattle.std.proofs.Common.{ap, sym, ◌∙◌, Some}
-use Rattle.rv_mem.specs.Regions.{first_byte, little_endian, number_in}
+use Rattle.rv_mem.specs.Regions.{content, first_byte, little_endian, number_in}
 use Rattle.rv_mem.proofs.Numbers.{number_in-spot, some_is}
 use Rattle.rv_mem.proofs.region.find_number.Goals as goal
 
@@ -8,4 +7,4 @@ returns-clause-value c =
     let rs = c.args.regions.now.items in
     let spot = c.in_ok-spot.spot in
     let region = c.index.result.now in
-    some_is c.number_at.result (number_in c.args.n (first_byte rs) c.args.at) (little_endian c.args.n c.deref.result.now spot.place) c.number_at.ensures.value (number_in-spot rs c.args.at c.args.n spot region c.in_ok-spot.ensures c.index.ensures ∙ ap (λ bs. Some (little_endian c.args.n bs spot.place)) (sym c.deref.ensures.value))
+    some_is c.number.result (number_in c.args.n (first_byte rs) c.args.at) (little_endian c.args.n (content region) spot.place) c.number.ensures.value (number_in-spot rs c.args.at c.args.n spot region c.in_ok-spot.ensures c.index.ensures)

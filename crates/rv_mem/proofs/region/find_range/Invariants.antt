@@ -1,6 +1,6 @@
 use Rattle.std.proofs.Common.{◌≡◌, ℕ, ◌<◌, ◌≤◌, ◌+◌, get_or, None}
 use Rattle.rv_mem.specs.Regions.{place_of}
-use Rattle.rv_mem.specs.declared.region.Region.{Region}
+use Rattle.rv_mem.specs.declared.mapped.Region.{Region}
 use Rattle.rv_mem.proofs.region.find_range.Given as goal
 
 abbrev pub invariant-loop-i : goal.invariant-loop-i

@@ -1,6 +1,6 @@
 use Rattle.std.proofs.Common.{◌≡◌, ◌<◌, ◌+◌, ◌-◌, ◌/◌, ◌%◌, ◌^◌, sym, subst, ◌∙◌, get_or, length, arith}
 use Rattle.std.proofs.lemmas.List.{get_or_default}
-use Rattle.rv_mem.specs.declared.region.Region.{Region}
+use Rattle.rv_mem.specs.declared.mapped.Region.{Region}
 use Rattle.rv_mem.proofs.window.find_quick.Goals as goal
 
 pub returns-then-at-index : goal.returns-then-at-index
@@ -16,6 +16,6 @@ returns-then-at-index c =
     record {
       listed = lt;
       near = λ d.
-          subst (λ (r : Region). (c.args.at + (2 ^ 64 - r.quick_from)) % 2 ^ 64 < (get_or rs i d).quick_len) (one d)
-          (subst (λ (r : Region). (c.args.at + (2 ^ 64 - c.index-2.result.now.quick_from)) % 2 ^ 64 < r.quick_len) (two d) c.if-at-index.true);
+          subst (λ (r : Region). (c.args.at + (2 ^ 64 - r.window.from)) % 2 ^ 64 < (get_or rs i d).quick_len) (one d)
+          (subst (λ (r : Region). (c.args.at + (2 ^ 64 - c.index-2.result.now.window.from)) % 2 ^ 64 < r.quick_len) (two d) c.if-at-index.true);
     }

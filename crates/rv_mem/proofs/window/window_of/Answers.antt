@@ -1,6 +1,7 @@
 use Rattle.std.proofs.Common.{◌≡◌, ◌∙◌, sym, ap, arith, get_or, length}
 use Rattle.std.proofs.lemmas.List.{get_or_default}
-use Rattle.rv_mem.specs.declared.region.Region.{Region}
+use Rattle.rv_mem.specs.Regions.{content}
+use Rattle.rv_mem.specs.declared.mapped.Region.{Region}
 use Rattle.rv_mem.proofs.window.window_of.Goals as goal
 
 pub returns : goal.returns
@@ -16,7 +17,7 @@ returns c =
           omega (arith, z, c.beside_text-window.ensures.begins);
       ends = λ d q g l.
           let z : (get_or rs i d).at ≡ c.index.result.now.at = ap (λ y. y.at) (one d) in
-          let n : length (get_or rs i d).bytes.items ≡ length c.index-2.result.now.bytes.items = ap (λ y. length y.bytes.items) (two d) in
+          let n : length (content (get_or rs i d)) ≡ length (content c.index-2.result.now) = ap (λ y. length (content y)) (two d) in
           omega (arith, z, n, c.beside_text-window.ensures.ends, c.saturating_add-end.ensures, c.len.ensures);
       apart = c.beside_text-window.ensures.apart;
       first = λ j d q lt g l. c.loop-k.invariant j d q (omega (arith, lt, c.loop-k-test.false)) g l;

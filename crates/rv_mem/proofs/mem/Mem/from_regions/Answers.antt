@@ -5,4 +5,4 @@ use Rattle.rv_mem.proofs.Starts.{entries_of-flat}
 use Rattle.rv_mem.proofs.mem.Mem.from_regions.Goals as goal
 
 pub returns : goal.returns
-returns c = ap (λ es. record { text_at = c.args.text_at; text_len = c.args.text_len; cells = from_entries es }) (entries_of-flat c.note_windows.new.regions.items ∙ ap (λ parts. flat parts) c.note_windows.ensures.parts)
+returns c = ap (λ es. record { text_at = c.args.text_at; text_len = c.args.text_len; cells = from_entries es }) (entries_of-flat c.set_windows.new.regions.items ∙ ap (λ parts. flat parts) c.set_windows.ensures.parts)

@@ -4,7 +4,7 @@ use Rattle.rv_word.specs.Memory.{cell, set_byte, in_range}
 use Rattle.rv_word.specs.declared.outcome.MemStop.TheVariants.{InText}
 use Rattle.rv_mem.proofs.Maps.{get_flat, put_flat}
 use Rattle.rv_mem.proofs.Writes.{is_there}
-use Rattle.rv_mem.proofs.Clear.{numbers_kept, quick_kept}
+use Rattle.rv_mem.proofs.Clear.{numbers_kept, clear_kept}
 use Rattle.rv_mem.proofs.mem.Mem.set_byte.Goals as goal
 
 pub put_byte-requires : goal.put_byte-requires
@@ -20,6 +20,6 @@ returns c =
 pub invariant_of-self : goal.invariant_of-self
 invariant_of-self c =
     let s = c.self.inside in (
-      quick_kept s.text_at s.text_len s.regions.items c.put_byte.new.regions.items c.self.invariant.0 c.put_byte.ensures.shape,
+      clear_kept s.text_at s.text_len s.regions.items c.put_byte.new.regions.items c.self.invariant.0 c.put_byte.ensures.shape,
       numbers_kept s.regions.items c.put_byte.new.regions.items s.pages.items c.self.invariant.1 c.put_byte.ensures.shape,
     )

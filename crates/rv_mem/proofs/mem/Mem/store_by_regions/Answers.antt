@@ -1,7 +1,7 @@
 use Rattle.std.proofs.Common.{◌≡◌, ◌+◌, ◌^◌, ◌<◌, ◌≤◌, ℕ, Ok, arith, rules, subst, true, false}
 use Rattle.rv_word.specs.Memory.{store, in_range}
 use Rattle.rv_mem.proofs.Overlays.{memory_in, store-regions}
-use Rattle.rv_mem.proofs.Clear.{numbers_kept, quick_kept}
+use Rattle.rv_mem.proofs.Clear.{numbers_kept, clear_kept}
 use Rattle.rv_mem.proofs.mem.Mem.store_by_regions.Goals as goal
 
 pub returns-then-put_number-clause-stored : goal.returns-then-put_number-clause-stored
@@ -18,13 +18,13 @@ returns-then-put_number-clause-stored c =
 pub invariant_of-self : goal.invariant_of-self
 invariant_of-self c =
     let s = c.self.inside in (
-      quick_kept s.text_at s.text_len s.regions.items c.put_number.new.regions.items c.self.invariant.0 c.put_number.ensures.shape,
+      clear_kept s.text_at s.text_len s.regions.items c.put_number.new.regions.items c.self.invariant.0 c.put_number.ensures.shape,
       numbers_kept s.regions.items c.put_number.new.regions.items s.pages.items c.self.invariant.1 c.put_number.ensures.shape,
     )
 
 pub invariant_of-self-else-put_number : goal.invariant_of-self-else-put_number
 invariant_of-self-else-put_number c =
     let s = c.self.inside in (
-      quick_kept s.text_at s.text_len s.regions.items c.put_number.new.regions.items c.self.invariant.0 c.put_number.ensures.shape,
+      clear_kept s.text_at s.text_len s.regions.items c.put_number.new.regions.items c.self.invariant.0 c.put_number.ensures.shape,
       numbers_kept s.regions.items c.put_number.new.regions.items s.pages.items c.self.invariant.1 c.put_number.ensures.shape,
     )
