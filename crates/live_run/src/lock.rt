@@ -99,10 +99,12 @@ impl<I: RunName> LockedSession<I> {
                 Ok(Some(receipt))
             }
             None => {
+                // For the proof alone: the hart fits a quantum.
+                self.session.laws();
                 let asked = Quantum {
-                    worker: seat.worker,
-                    hart,
-                    turns,
+                    worker: seat.worker as u8,
+                    hart: hart as u8,
+                    turns: turns as u16,
                     owns: 0,
                 };
                 let book = mem::replace(&mut self.book, Badge::blank()).into_seat();

@@ -4,11 +4,11 @@
 #[derive(Clone, Copy, PartialEq, Eq, Drop)]
 pub struct Quantum {
     /// The worker that gave it, below [`MAX_WORKERS`](crate::MAX_WORKERS).
-    pub worker: u32,
+    pub worker: u8,
     /// The hart that had it, below the settings' harts.
-    pub hart: u32,
+    pub hart: u8,
     /// How many turns were asked for, from 1 to [`MAX_QUANTUM`](crate::MAX_QUANTUM).
-    pub turns: u32,
+    pub turns: u16,
     /// How many of the program's own words were executed, at most 65,535.
-    pub owns: u32,
+    pub owns: u16,
 }

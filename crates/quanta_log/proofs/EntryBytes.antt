@@ -154,7 +154,7 @@ entries_spelled v harts b at (suc n) some bytes l e =
 
 -- ---- harts
 
-wider : (harts : ℕ) (q : Quantum) → harts ≤ 32 → IsQuantum harts q → IsQuantum 32 q
+pub wider : (harts : ℕ) (q : Quantum) → harts ≤ 32 → IsQuantum harts q → IsQuantum 32 q
 wider harts q few is = let h = is.hart in record { worker = is.worker; hart = omega arith; turns = is.turns; owns = is.owns }
 
 all_wider : (harts : ℕ) (qs : List Quantum) → harts ≤ 32 → AllByRecursion (IsQuantum harts) qs → AllByRecursion (IsQuantum 32) qs

@@ -1,7 +1,8 @@
 -- Reading entries one after the other.
-use Rattle.std.proofs.Common.{◌≡◌, ℕ, suc, ◌+◌, ◌-◌, ◌<◌, ◌≤◌, List, [], ◌∷◌, ◌++◌, Option, Some, None, refl, sym, ap, ◌∙◌, append_assoc, arith}
+use Rattle.std.proofs.Common.{◌≡◌, ℕ, suc, ◌+◌, ◌-◌, ◌*◌, ◌<◌, ◌≤◌, List, [], ◌∷◌, ◌++◌, Option, Some, None, refl, sym, ap, ◌∙◌, append_assoc, arith}
 use Rattle.std.proofs.lemmas.List.{append-nil}
 use Rattle.quanta_log.specs.declared.version.Version.{Version}
+use Rattle.quanta_log.specs.declared.version.Version.TheVariants.{One, Two}
 use Rattle.pn_types.specs.declared.quantum.Quantum.{Quantum}
 use Rattle.quanta_log.specs.declared.fault.LogFault.{LogFault}
 use Rattle.quanta_log.specs.Fields.{entry_len}
@@ -10,6 +11,13 @@ use Rattle.quanta_log.specs.Meaning.{first_fault, quantum_at, quanta_at, entry_f
 alone : (x : Option LogFault) → first_fault (x ∷ []) ≡ x
 alone None = refl
 alone (Some f) = refl
+
+-- ---- places
+
+-- an entry before the last ends within the entries
+pub entry_within : (v : Version) (count i front at n : ℕ) → i < count → at ≡ front + i * entry_len v → front + count * entry_len v ≤ n → at + entry_len v ≤ n
+entry_within One count i front at n lt is whole = omega arith
+entry_within Two count i front at n lt is whole = omega arith
 
 -- ---- faults
 

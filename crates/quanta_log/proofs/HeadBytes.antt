@@ -4,7 +4,7 @@ use Rattle.std.proofs.lemmas.List.{take-append-drop, length-take}
 use Rattle.std.specs.Cmp.Lexicographic.{same_text}
 use Rattle.byteorder.specs.Endian.{little_bytes}
 use Rattle.byteorder.specs.Numbers.{little_number-reads_back}
-use Rattle.pn_types.specs.declared.limits.TheConstants.{MAX_QUANTA}
+use Rattle.pn_types.specs.declared.limits.TheConstants.{MAX_HARTS, MAX_QUANTA}
 use Rattle.pn_types.specs.declared.settings.Settings.{Settings}
 use Rattle.pn_types.specs.declared.settings.Start.{Start}
 use Rattle.pn_types.specs.declared.settings.Start.TheVariants.{Cold, Warm}
@@ -203,3 +203,8 @@ some_harts v b fine = (all_lie b (head_fields v) fine).0.0
 pub few_entries : (v : Version) (b : List ℕ) → head_fault v b ≡ None → count_of b ≤ MAX_QUANTA
 unfolding head_fault
 few_entries v b fine = (all_lie b (head_fields v) fine).1.1.1.1.0.1
+
+pub few_harts : (v : Version) (b : List ℕ) → head_fault v b ≡ None → log_harts b ≤ MAX_HARTS
+unfolding head_fault
+few_harts One b fine = let few = (all_lie b (head_fields One) fine).0.1 in omega arith
+few_harts Two b fine = (all_lie b (head_fields Two) fine).0.1

@@ -3,11 +3,12 @@
 ghost use Rattle.std.specs.Prelude.{◌≡◌, ◌+◌, ◌≤◌, ◌<◌, length, None, Some, MatchResult};
 ghost use Rattle.quanta_log.specs.Fields.{head_len, entry_len, log_len};
 ghost use Rattle.quanta_log.specs.Meaning.{log_harts, count_of, quantum_at, quanta_at, entry_fault, entries_fault, LogRefuses};
+ghost use Rattle.quanta_log.specs.Spelling.{IsQuantum};
 
 use crate::fault::{LogError, LogFault};
 use crate::numbers::{byte, doubleword, half, is_within, word};
 use crate::version::Version;
-use pn_types::{MAX_QUANTUM, MAX_WORKERS, Quantum};
+use pn_types::{MAX_HARTS, MAX_QUANTUM, MAX_WORKERS, Quantum};
 use std::alloc::Global;
 
 /// The greatest number of a quantum's own words.
@@ -74,23 +75,24 @@ fn entry_fault(version: Version, harts: u32, bytes: &[u8], at: usize) -> Option<
     }
 }
 
-/// The quantum of an entry at a place.
+/// The quantum of an entry at a place, whose numbers lie in their ranges.
 fn quantum_at(version: Version, bytes: &[u8], at: usize) -> Quantum
-    requires { at + entry_len version ≤ length bytes.now }
+    requires whole { at + entry_len version ≤ length bytes.now }
+    requires right { IsQuantum MAX_HARTS (quantum_at version bytes.now at) }
     ensures { result ≡ quantum_at version bytes.now at }
 {
     match version {
         Version::One => Quantum {
-            worker: word(bytes, at),
-            hart: word(bytes, at + 4),
-            turns: word(bytes, at + 8),
-            owns: word(bytes, at + 12),
+            worker: word(bytes, at) as u8,
+            hart: word(bytes, at + 4) as u8,
+            turns: word(bytes, at + 8) as u16,
+            owns: word(bytes, at + 12) as u16,
         },
         Version::Two => Quantum {
-            worker: byte(bytes, at) as u32,
-            hart: byte(bytes, at + 1) as u32,
-            turns: half(bytes, at + 2) as u32,
-            owns: half(bytes, at + 4) as u32,
+            worker: byte(bytes, at),
+            hart: byte(bytes, at + 1),
+            turns: half(bytes, at + 2),
+            owns: half(bytes, at + 4),
         },
     }
 }
@@ -101,7 +103,7 @@ fn quantum_at(version: Version, bytes: &[u8], at: usize) -> Quantum
 ///
 /// The first fault of an entry, or out of memory.
 pub fn quanta_of(alloc: Global, version: Version, bytes: &[u8]) -> Result<Vec<Quantum>, LogError>
-    requires harts { 1 ≤ log_harts bytes.now }
+    requires harts { (1 ≤ log_harts bytes.now) × (log_harts bytes.now ≤ MAX_HARTS) }
     requires whole { log_len version (count_of bytes.now) ≤ length bytes.now }
     ensures { MatchResult result
         (λ quanta. (entries_fault version (log_harts bytes.now) bytes.now (count_of bytes.now) (head_len version) ≡ None)

@@ -43,10 +43,10 @@ fn entry_of(quantum: &Quantum) -> [u8; 8]
     ensures { result ≡ entry Version.Two quantum.now }
 {
     let mut entry = [0; 8];
-    entry[0] = quantum.worker as u8;
-    entry[1] = quantum.hart as u8;
-    LittleEndian::write_u16(&mut entry[2..], quantum.turns as u16);
-    LittleEndian::write_u16(&mut entry[4..], quantum.owns as u16);
+    entry[0] = quantum.worker;
+    entry[1] = quantum.hart;
+    LittleEndian::write_u16(&mut entry[2..], quantum.turns);
+    LittleEndian::write_u16(&mut entry[4..], quantum.owns);
     entry
 }
 

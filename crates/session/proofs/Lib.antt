@@ -19,6 +19,7 @@ pub mod Reported
 pub mod Sampling
 pub mod SoundPairs
 pub mod Tabled
+pub mod Owns
 pub mod Quanta
 pub mod Halting
 pub mod Ticks

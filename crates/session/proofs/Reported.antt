@@ -1,6 +1,6 @@
 -- What the code tells of what it holds is what a report shows of the state.
 use Rattle.std.proofs.Common.{◌≡◌, ℕ, suc, ◌+◌, ◌<◌, List, [], ◌∷◌, ◌++◌, get_or, length, map, take, Some, refl, sym, ap, ap₂, ◌∙◌, subst, arith}
-use Rattle.std.specs.Prelude.{◌&&◌, Bool, Option, None, cond, false, true, is_none, nat_lt, slice_get}
+use Rattle.std.specs.Prelude.{Bool, None, cond, false, true, is_none, nat_lt, slice_get}
 use Rattle.std.proofs.Math.Seq.{take-suc}
 use Rattle.std.proofs.lemmas.List.{append-nil, append_assoc}
 use Rattle.std.proofs.lemmas.Option.{slice_get_within, get_or_from_slice_get}

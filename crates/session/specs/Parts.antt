@@ -1,5 +1,5 @@
 -- What a report shows of a session.
-use Rattle.std.specs.Prelude.{ℕ, zero, suc, nat_le, if◌then◌else◌, Bool, true, false, List, [], ◌∷◌, ◌++◌, Option, None, Some, codes, is_none, length, map, slice_get}
+use Rattle.std.specs.Prelude.{ℕ, zero, suc, nat_le, if◌then◌else◌, List, [], ◌∷◌, ◌++◌, Option, None, Some, codes, is_none, length, map, slice_get}
 use Rattle.std.specs.Option.{option_map_or}
 use Rattle.rv_word.specs.Plain.{PlainHart, Plain, may_go}
 use Rattle.rv_exec.specs.Run.{run}

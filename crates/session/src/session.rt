@@ -211,7 +211,7 @@ impl Session {
     /// is a difference of readings. Where all wishes are for the opening, and none drops a pair, this holds for the whole run. The
     /// search's nodes are a history; each verdict is that of the program's own run, by the samples of an instrument of the node's
     /// own; each barred node was barred when its turn came; after the end each node has a verdict, or says why not; and what is
-    /// under test costs no more than the limit, at each moment.
+    /// under test costs no more than the limit, at each moment. It has at most [`MAX_HARTS`] harts.
     pub fn laws(&self)
         ensures allowed { AreAllowed self.now.inputs self.now.quanta }
         ensures machine { self.now.machine ≡ (state_of self.now).kept.machine }
@@ -228,6 +228,7 @@ impl Session {
         ensures told { self.now.closed ≡ true → AreEnded self.now.inputs self.now.quanta (state_of self.now) }
         ensures cost { IsWithinLimit self.now.inputs (state_of self.now).kept }
         ensures moments { self.now.closed ≡ false → AreWithin self.now.inputs (state_of self.now) }
+        ensures harts { self.now.inputs.settings.harts ≤ MAX_HARTS }
     {
         // For the proof alone: `nodes` says that they are a history.
         let _nodes = self.stored.search.nodes();
@@ -293,8 +294,34 @@ impl Session {
         ensures failed { OnErr result (self.new ≡ self.old) }
     {
         if !self.runnable(hart) {
+            // For the proof alone: no hart has more ticks than the budget.
+            self.laws();
             return Ok(None);
         }
+        Ok(Some(self.next_quantum(worker, hart, turns)?))
+    }
+
+    /// Does what [`Session::quantum`] does for a hart that can take a quantum, without a look at whether it can.
+    ///
+    /// # Errors
+    ///
+    /// `NoMemory` where memory runs out. Then nothing has changed.
+    #[inline(always)]
+    pub fn next_quantum(&mut self, worker: u32, hart: u32, turns: u32) -> Result<Quantum, NoMemory>
+        requires going { self.old.closed ≡ false }
+        requires worker { worker < MAX_WORKERS }
+        requires hart { hart < self.old.inputs.settings.harts }
+        requires turns { (1 ≤ turns) × (turns ≤ MAX_QUANTUM) }
+        requires few { length self.old.quanta < MAX_QUANTA }
+        requires open { is_runnable (state_of self.old).kept.machine.core hart ≡ true }
+        ensures inputs { self.new.inputs ≡ self.old.inputs }
+        ensures closed { self.new.closed ≡ false }
+        ensures taken { IfOk result (λ q. self.new.quanta ≡ self.old.quanta ++ q ∷ []) }
+        ensures machine { self.new.machine ≡ (state_of self.new).kept.machine }
+        ensures budget { KeepsBudget self.new.machine.core }
+        ensures asked { IfOk result (λ q. q ≡ quantum_of self.old.inputs worker hart turns (state_of self.old).kept) }
+        ensures failed { OnErr result (self.new ≡ self.old) }
+    {
         self.quanta.reserve(1)?;
         let width = self.inputs.width();
         let looked = admit_from(
@@ -309,13 +336,13 @@ impl Session {
         self.looked += looked;
         let owns = self.stored.tend(HartNo::numbered(hart), turns, width);
         let quantum = Quantum {
-            worker,
-            hart,
-            turns,
-            owns,
+            worker: worker as u8,
+            hart: hart as u8,
+            turns: turns as u16,
+            owns: owns as u16,
         };
         put_quantum(&mut self.quanta, quantum);
-        Ok(Some(quantum))
+        Ok(quantum)
     }
 
     /// Ends the session: each hart that is inside a trampoline takes turns until it is outside, and where time passed since the

@@ -25,9 +25,10 @@ fn take(session: &mut Session, told: &Quantum) -> Result<bool, NoMemory>
     ensures going { session.new.closed ≡ false }
     ensures inputs { session.new.inputs ≡ session.old.inputs }
 {
-    let taken = match session.quantum(told.worker, told.hart, told.turns) {
+    let (worker, hart, turns) = (told.worker as u32, told.hart as u32, told.turns as u32);
+    let taken = match session.quantum(worker, hart, turns) {
         Ok(taken) => taken,
-        Err(NoMemory {}) => session.quantum(told.worker, told.hart, told.turns)?,
+        Err(NoMemory {}) => session.quantum(worker, hart, turns)?,
     };
     Ok(match taken {
         Some(quantum) => quantum == *told,

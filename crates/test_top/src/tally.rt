@@ -37,7 +37,7 @@ impl Tally {
 fn passes_of(worker: u32, quanta: &[Quantum], harts: u32) -> u64 {
     let taken = quanta
         .iter()
-        .filter(|quantum| quantum.worker == worker)
+        .filter(|quantum| quantum.worker as u32 == worker)
         .count();
     let own = (0..harts).filter(|hart| hart % 2 == worker).count();
     (taken as u64).saturating_add(own as u64)

@@ -1,14 +1,14 @@
 -- Quanta in the order of a seed go on by one more.
 use Rattle.std.proofs.Common.{◌≡◌, ◌≢◌, ℕ, ◌+◌, ◌<◌, ◌≤◌, List, [], ◌∷◌, ◌++◌, Option, Some, None, refl, sym, ap, ap₂, ◌∙◌, subst, arith, length, inl, inr}
-use Rattle.std.specs.Prelude.{Bool, true, false, cond, filter, not, ◌==◌, ◌||◌, IfNone, IfSome}
-use Rattle.std.proofs.lemmas.Bool.{eqb-false, eqb-true, true≢false}
+use Rattle.std.specs.Prelude.{Bool, true, false, cond, filter, not, ◌==◌, ◌||◌}
+use Rattle.std.proofs.lemmas.Bool.{eqb-false, eqb-true}
 use Rattle.std.specs.List.{range_with_len}
 use Rattle.std.proofs.lemmas.List.{length-append}
 use Rattle.std.proofs.lemmas.List.Elements.{filter-append}
 use Rattle.pn_types.specs.declared.limits.TheConstants.{MAX_QUANTA}
 use Rattle.turn_order.specs.declared.order.Order.{Order}
 use Rattle.turn_order.specs.Orders.{chosen, order_after, order_of_seed, picked, ready_of}
-use Rattle.turn_order.proofs.Picks.{filter_same, filter_without, none_may, picked_may, range_more}
+use Rattle.turn_order.proofs.Picks.{filter_same, filter_without, none_may, range_more}
 use Rattle.pn_types.specs.declared.quantum.Quantum.{Quantum}
 use Rattle.machine.specs.Turns.{is_runnable}
 use Rattle.session_spec.specs.Inputs.{Inputs}
@@ -147,26 +147,20 @@ pub picks : (i : Inputs) (quanta : List Quantum) (harts : ℕ) (order : Order) (
 picks i quanta harts order ready r o h e p is = sym (p ∙ ap (chosen order) (e ∙ ap (ready_of (may_go i quanta)) h)) ∙ is
 
 -- a session that was asked for it took one
-pub takes : (s new : SessionData) (seed turns count h : ℕ) (order : Order) (answer : Option Quantum) → s.closed ≡ false → count < MAX_QUANTA → Running s.inputs seed turns count s.quanta order
-    → picked order (may_go s.inputs s.quanta) s.inputs.settings.harts ≡ Some h → IfSome answer (λ q. new.quanta ≡ s.quanta ++ q ∷ []) → IfSome answer (λ q. q ≡ quantum_of s.inputs 0 h turns (state_of s).kept) → IfNone answer (Halted s.inputs s.quanta h)
-    → Running s.inputs seed turns (count + 1) new.quanta (order_after order h)
-takes s new seed turns count h order (Some q) wide few r p taken asked none =
+pub takes : (s new : SessionData) (seed turns count h : ℕ) (order : Order) (q : Quantum) → s.closed ≡ false → Running s.inputs seed turns count s.quanta order
+    → picked order (may_go s.inputs s.quanta) s.inputs.settings.harts ≡ Some h → new.quanta ≡ s.quanta ++ q ∷ [] → q ≡ quantum_of s.inputs 0 h turns (state_of s).kept → Running s.inputs seed turns (count + 1) new.quanta (order_after order h)
+takes s new seed turns count h order q wide r p taken asked =
     subst (λ l. Running s.inputs seed turns (count + 1) l (order_after order h)) (sym taken)
     (goes_on s.inputs seed turns count h s.quanta order q r p (asked ∙ ap (λ (x : State). quantum_of s.inputs 0 h turns x.kept) (going s wide)))
-takes s new seed turns count h order None wide few r p taken asked none =
-    let number = r.number in
-    absurd (true≢false (sym (picked_may order (may_go s.inputs s.quanta) s.inputs.settings.harts h p).0 ∙ stuck s.inputs s.quanta h (omega arith) none))
 
 -- and left the list of those that could go, where no work was done
-pub takes_others : (s new : SessionData) (h n turns : ℕ) (ready : List ℕ) (answer : Option Quantum) → new.inputs ≡ s.inputs → length s.quanta < MAX_QUANTA → may_go s.inputs s.quanta h ≡ true
-    → IfSome answer (λ q. new.quanta ≡ s.quanta ++ q ∷ []) → IfSome answer (λ q. q ≡ quantum_of s.inputs 0 h turns (state_of s).kept) → IfNone answer (Halted s.inputs s.quanta h)
+pub takes_others : (s new : SessionData) (h n turns : ℕ) (ready : List ℕ) (q : Quantum) → new.inputs ≡ s.inputs → may_go s.inputs s.quanta h ≡ true → new.quanta ≡ s.quanta ++ q ∷ [] → q ≡ quantum_of s.inputs 0 h turns (state_of s).kept
     → ready ≡ ready_of (may_go s.inputs s.quanta) n → (after_quanta new.inputs new.quanta).kept.worked ≡ false → ready ≡ ready_of (or_hart (may_go new.inputs new.quanta) h) n
-takes_others s new h n turns ready (Some q) same few t taken asked none e idle =
+takes_others s new h n turns ready q same t taken asked e idle =
     let hart : q.hart ≡ h = ap (λ (x : Quantum). x.hart) asked in
     let now : after_quanta new.inputs new.quanta ≡ after_quanta s.inputs (s.quanta ++ q ∷ []) = ap₂ after_quanta same taken in
     others_kept s.inputs s.quanta q n ready e (ap (may_go s.inputs s.quanta) hart ∙ t) (ap (λ (x : State). x.kept.worked) (sym now) ∙ idle)
     ∙ ap₂ (λ (x : State) (m : ℕ). ready_of (or_hart (is_runnable x.kept.machine.core) m) n) (sym now) hart
-takes_others s new h n turns ready None same few t taken asked none e idle = absurd (true≢false (sym t ∙ stuck s.inputs s.quanta h few none))
 
 -- ---- the whole list
 
@@ -194,17 +188,13 @@ stand_full r s a m l = record { ordered = a.ordered; whole = record { allowed = 
 pub stand_last : (r : Rounds) (s : SessionData) → StandAt r s → AreAllowed s.inputs s.quanta → picked r.order (may_go s.inputs s.quanta) s.inputs.settings.harts ≡ None → IsSeeded s.inputs r.seed r.turns s.quanta
 stand_last r s a m p = ends s.inputs r.seed r.turns (length s.quanta) s.quanta r.order (running r s a) m p
 
--- a hart that is next takes its quantum
-pub never_none : (s : SessionData) (h : ℕ) (order : Order) → length s.quanta < MAX_QUANTA → picked order (may_go s.inputs s.quanta) s.inputs.settings.harts ≡ Some h → Halted s.inputs s.quanta h → ⊥
-never_none s h order few p halts = true≢false (sym (picked_may order (may_go s.inputs s.quanta) s.inputs.settings.harts h p).0 ∙ stuck s.inputs s.quanta h few halts)
-
--- and the rounds stand at the session after it
-pub stand_next : (r : Rounds) (s new : SessionData) (order : Order) (ready : List ℕ) (h : ℕ) (answer : Option Quantum) → StandAt r s → length s.quanta < MAX_QUANTA → picked r.order (may_go s.inputs s.quanta) s.inputs.settings.harts ≡ Some h
-    → new.closed ≡ false → new.inputs ≡ s.inputs → IfSome answer (λ q. new.quanta ≡ s.quanta ++ q ∷ []) → IfSome answer (λ q. q ≡ quantum_of s.inputs 0 h r.turns (state_of s).kept) → IfNone answer (Halted s.inputs s.quanta h)
+-- a hart that is next takes its quantum: the rounds stand at the session after it
+pub stand_next : (r : Rounds) (s new : SessionData) (order : Order) (ready : List ℕ) (h : ℕ) (q : Quantum) → StandAt r s → picked r.order (may_go s.inputs s.quanta) s.inputs.settings.harts ≡ Some h
+    → new.closed ≡ false → new.inputs ≡ s.inputs → new.quanta ≡ s.quanta ++ q ∷ [] → q ≡ quantum_of s.inputs 0 h r.turns (state_of s).kept
     → order_after r.order h ≡ order → (length new.quanta < MAX_QUANTA → ready ≡ ready_of (may_go new.inputs new.quanta) r.harts)
     → StandAt (record { seed = r.seed; turns = r.turns; harts = r.harts; order = order; ready = ready }) new
-stand_next r s new order ready h answer a few p going same taken asked none is rest =
-    let more = takes s new r.seed r.turns (length s.quanta) h r.order answer a.going few (running r s a) p taken asked none in
+stand_next r s new order ready h q a p going same taken asked is rest =
+    let more = takes s new r.seed r.turns (length s.quanta) h r.order q a.going (running r s a) p taken asked in
     record {
       going = going;
       harts = a.harts ∙ ap (λ (i : Inputs). i.settings.harts) (sym same);
@@ -217,7 +207,3 @@ stand_next r s new order ready h answer a few p going same taken asked none is r
 
 pub seeded_by : (i j : Inputs) (seed other turns some : ℕ) (quanta : List Quantum) → i ≡ j → seed ≡ other → turns ≡ some → IsSeeded i seed turns quanta → IsSeeded j other some quanta
 seeded_by i j seed other turns some quanta same a b s = subst (λ (x : Inputs). IsSeeded x other some quanta) same (subst (λ n. IsSeeded i n some quanta) a (subst (λ n. IsSeeded i seed n quanta) b s))
-
-pub if_none : {A B : Type 0} (answer : Option Quantum) → (A → B) → IfNone answer A → IfNone answer B
-if_none None f a = f a
-if_none (Some q) f a = a

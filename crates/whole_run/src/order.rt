@@ -40,6 +40,7 @@ fn fill(session: &Session, harts: u32, ready: &mut Ready) -> Result<(), NoMemory
 /// # Errors
 ///
 /// `NoMemory` where memory runs out.
+#[inline(always)]
 fn refresh(session: &Session, harts: u32, hart: HartNo, ready: &mut Ready) -> Result<(), NoMemory>
     requires harts { harts ≡ session.now.inputs.settings.harts }
     requires few { harts ≤ MAX_HARTS }
@@ -107,6 +108,7 @@ impl Rounds {
     /// # Errors
     ///
     /// `NoMemory` where memory runs out. Then these rounds mustn't be used any more.
+    #[inline(always)]
     pub fn next(&mut self, session: &mut Session) -> Result<Option<Quantum>, NoMemory>
         requires { StandAt self.old session.old }
         ensures at { OnOk result (StandAt self.new session.new) }
@@ -126,10 +128,10 @@ impl Rounds {
             session.laws();
             return Ok(None);
         };
-        let taken = session.quantum(0, hart.get(), self.turns)?;
+        let taken = session.next_quantum(0, hart.get(), self.turns)?;
         refresh(session, self.harts, hart, &mut self.ready)?;
         self.order = self.order.after(hart);
-        Ok(taken)
+        Ok(Some(taken))
     }
 }
 

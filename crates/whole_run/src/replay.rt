@@ -36,14 +36,15 @@ fn follow<P: Progress>(
     ensures misfit { IfErr result (IsMisfit session.old.inputs quanta.now) }
 {
     'quanta: for (number, told) in quanta.iter().enumerate() {
-        let Some(taken) = session.quantum(told.worker, told.hart, told.turns)? else {
-            return Err(ReplayFault::Misfit(Misfit::NotRunnable(number as u64, told.hart)));
+        let hart = told.hart as u32;
+        let Some(taken) = session.quantum(told.worker as u32, hart, told.turns as u32)? else {
+            return Err(ReplayFault::Misfit(Misfit::NotRunnable(number as u64, hart)));
         };
         if taken.owns != told.owns {
             return Err(ReplayFault::Misfit(Misfit::OtherOwns(
                 number as u64,
-                told.owns,
-                taken.owns,
+                told.owns as u32,
+                taken.owns as u32,
             )));
         }
         progress.see(session);

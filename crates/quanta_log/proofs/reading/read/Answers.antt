@@ -1,6 +1,6 @@
 use Rattle.std.proofs.Common.{◌≡◌, ◌≤◌, None, sym, subst, arith, rules}
 use Rattle.quanta_log.specs.Meaning.{head_fault, log_fault, meaning_of}
-use Rattle.quanta_log.proofs.HeadBytes.{some_harts, few_entries}
+use Rattle.quanta_log.proofs.HeadBytes.{few_entries, few_harts, some_harts}
 use Rattle.quanta_log.proofs.LogBytes.{writable}
 use Rattle.pn_types.specs.declared.limits.TheConstants.{MAX_QUANTA}
 use Rattle.quanta_log.proofs.reading.read.Goals as goal
@@ -13,7 +13,7 @@ log_len-end-requires c =
 pub quanta_of-requires-clause-harts : goal.quanta_of-requires-clause-harts
 quanta_of-requires-clause-harts c =
     let fine : head_fault c.in-Some.version c.args.bytes.now ≡ None = search rules in
-    some_harts c.in-Some.version c.args.bytes.now fine
+    (some_harts c.in-Some.version c.args.bytes.now fine, few_harts c.in-Some.version c.args.bytes.now fine)
 
 pub returns-clause-meaning : goal.returns-clause-meaning
 unfolding meaning_of log_fault

@@ -1,5 +1,6 @@
-use Rattle.std.proofs.Common.{◌≡◌, ap, subst}
+use Rattle.std.proofs.Common.{◌≡◌, ◌≤◌, ap, subst}
 use Rattle.std.specs.Prelude.{false, drop, true}
+use Rattle.pn_types.specs.declared.limits.TheConstants.{MAX_HARTS}
 use Rattle.session_spec.specs.Run.{IsRun}
 use Rattle.session_spec.specs.Work.{AreAllowed}
 use Rattle.session_spec.specs.States.{SessionState}
@@ -25,6 +26,9 @@ returns-clause-allowed c = subst (λ (d : SessionData). AreAllowed d.inputs d.qu
 
 pub returns-clause-machine : goal.returns-clause-machine
 returns-clause-machine c = subst (λ (x : SessionData). x.machine ≡ (state_of x).kept.machine) c.self.view_is (ap (λ (k : SessionState). k.machine) c.self.invariant.0.state.kept)
+
+pub returns-clause-harts : goal.returns-clause-harts
+returns-clause-harts c = subst (λ (x : SessionData). x.inputs.settings.harts ≤ MAX_HARTS) c.self.view_is c.self.invariant.0.given.settings.harts.1
 
 pub returns-clause-run : goal.returns-clause-run
 returns-clause-run c =
