@@ -17,7 +17,10 @@ use Rattle.rv_word.specs.declared.instr.StoreOp.TheVariants.{Sd}
 use Rattle.rv_word.specs.declared.outcome.Cause.TheVariants.{Misaligned, Access}
 use Rattle.tramp_spec.specs.Banks.{bank_len, is_in_bank}
 use Rattle.tramp_spec.specs.Steps.{Bench, stand, perform_on, step_decoded}
-use Rattle.code_store.specs.Operations.{computes, RunsAlike, done_as, bank_loaded, bank_stored}
+use Rattle.rv_exec.specs.Flat.{IsFlatOf}
+use Rattle.rv_exec.specs.declared.flat.Flat.{Flat}
+use Rattle.rv_exec.specs.declared.flat.Flat.TheVariants as flats
+use Rattle.code_store.specs.Operations.{StepsBy, is_access, computes, RunsAlike, done_as, bank_loaded, bank_stored}
 
 -- ---- words that do what they do in the program
 
@@ -132,3 +135,12 @@ loads rd rs1 offset ticks pc x = refl
 pub stores : (rs1 rs2 offset ticks pc : ℕ) (x : Bench) → step_decoded bank_len (Some (Store Sd rs1 rs2 offset)) ticks pc x ≡ bank_stored (reg x.regs rs2) (wrap (reg x.regs rs1 + offset)) pc x
 unfolding action perform_on
 stores rs1 rs2 offset ticks pc x = refl
+
+-- ---- the flats of the tool's words
+
+-- a flat that accesses no memory steps by what it does in the program
+pub steps_alike : (f : Flat) (i : Option Instr) → is_access f ≡ false → IsFlatOf i f → RunsAlike bank_len i → StepsBy i f
+steps_alike (flats.Ld rd rs1 imm) i none is r = absurd cc
+steps_alike (flats.Sd rs1 rs2 imm) i none is r = absurd cc
+steps_alike flats.Rest i none is r = (none, is, tt)
+steps_alike f i none is r = (none, is, r)

@@ -1,5 +1,5 @@
 -- For proofs alone: the operations that the slots of a store keep for their words.
-use Rattle.std.specs.Prelude.{◌≡◌, ℕ, ◌+◌, ◌/◌, ◌<◌, ◌^◌, if◌then◌else◌, not, Bool, true, false, Option, Some, None, Result, Ok, Err, List, [], ◌∷◌, IfSome}
+use Rattle.std.specs.Prelude.{◌≡◌, ℕ, ◌+◌, ◌/◌, ◌<◌, ◌≤◌, ◌^◌, if◌then◌else◌, not, Bool, true, false, Option, Some, None, Result, Ok, Err, List, [], ◌∷◌, IfSome}
 use Rattle.rv_word.specs.Exec.{Prog, Done, done_of_outcome, exec_decoded, next}
 use Rattle.rv_word.specs.Registers.{reg}
 use Rattle.rv_word.specs.Table.{decode_of}
@@ -11,7 +11,7 @@ use Rattle.rv_word.specs.declared.outcome.Cause.{Cause}
 use Rattle.rv_word.specs.declared.outcome.Cause.TheVariants.{Access}
 use Rattle.rv_word.specs.declared.outcome.Next.{Next}
 use Rattle.rv_word.specs.declared.outcome.Next.TheVariants as ways
-use Rattle.rv_exec.specs.Flat.{instr_of, CanRunFlat, IsFlatOf}
+use Rattle.rv_exec.specs.Flat.{instr_of, wide, CanRunFlat, IsFlatOf}
 use Rattle.tramp_spec.specs.Marks.{is_jump}
 use Rattle.tramp_spec.specs.Banks.{bank_at, bank_len, is_in_bank}
 use Rattle.tramp_spec.specs.Steps.{Bench, Stood, stand, step_decoded, with_doubleword, with_value}
@@ -19,6 +19,7 @@ use Rattle.tramp_spec.specs.declared.mark.Mark.{Mark}
 use Rattle.tramp_spec.specs.declared.mark.Mark.TheVariants.{Own, Enter, Tool, Leave}
 use Rattle.tramp_spec.specs.declared.mark.MarkedWord.{MarkedWord}
 use Rattle.rv_exec.specs.declared.flat.Flat.{Flat}
+use Rattle.rv_exec.specs.declared.flat.Flat.TheVariants as flats
 use Rattle.code_store.specs.declared.operation.Operation.{Operation}
 use Rattle.code_store.specs.declared.operation.Operation.TheVariants.{Run, LoadBank, StoreBank, NoAccess, Stop}
 
@@ -92,6 +93,41 @@ IsOperationBy Leave i o = Does 0 i o
 -- the operation of a marked word
 abbrev pub IsOperationOf : MarkedWord → Operation → Type 0
 IsOperationOf w o = IsOperationBy w.mark (decode_of w.word) o
+
+-- ---- flats of the tool's words
+
+-- the flat of an access to memory
+abbrev pub is_access : Flat → Bool
+is_access (flats.Lb rd rs1 imm) = true
+is_access (flats.Lh rd rs1 imm) = true
+is_access (flats.Lw rd rs1 imm) = true
+is_access (flats.Ld rd rs1 imm) = true
+is_access (flats.Lbu rd rs1 imm) = true
+is_access (flats.Lhu rd rs1 imm) = true
+is_access (flats.Lwu rd rs1 imm) = true
+is_access (flats.Sb rs1 rs2 imm) = true
+is_access (flats.Sh rs1 rs2 imm) = true
+is_access (flats.Sw rs1 rs2 imm) = true
+is_access (flats.Sd rs1 rs2 imm) = true
+is_access f = false
+
+-- What the flat of the tool's word says that it does: its accesses are those of doublewords of the bank, and else it does what it does in the
+-- program.
+abbrev pub StepsBy : Option Instr → Flat → Type 0
+StepsBy i (flats.Ld rd rs1 imm) =
+    (1 ≤ rd) × (rd < 32) × (rs1 < 32)
+    × ((ticks pc : ℕ) (x : Bench) → step_decoded bank_len i ticks pc x ≡ bank_loaded rd (wrap (reg x.regs rs1 + wide imm)) ticks pc x)
+StepsBy i (flats.Sd rs1 rs2 imm) =
+    (rs1 < 32) × (rs2 < 32)
+    × ((ticks pc : ℕ) (x : Bench) → step_decoded bank_len i ticks pc x ≡ bank_stored (reg x.regs rs2) (wrap (reg x.regs rs1 + wide imm)) pc x)
+StepsBy i f = (is_access f ≡ false) × IsFlatOf i f × IfSome (instr_of f) (λ j. RunsAlike bank_len i)
+
+-- the flat of a word of the tool; for another it is `Rest`
+abbrev pub IsToolFlatBy : Mark → Option Instr → Flat → Type 0
+IsToolFlatBy Tool i f = StepsBy i f
+IsToolFlatBy Own i f = f ≡ flats.Rest
+IsToolFlatBy Enter i f = f ≡ flats.Rest
+IsToolFlatBy Leave i f = f ≡ flats.Rest
 
 -- ---- flats
 

@@ -1,11 +1,13 @@
 //! What a word does under its mark.
 
 ghost use Rattle.std.specs.Prelude.{◌≡◌, ◌<◌, false, Some, IfSome};
+ghost use Rattle.rv_word.specs.Table.{decode_of};
 ghost use Rattle.rv_word.specs.Words.{HasWord};
 ghost use Rattle.rv_word.specs.declared.instr.Instr.TheVariants.{Load, Store};
-ghost use Rattle.code_store.specs.Operations.{Does, IsOperationOf, computes, reached};
+ghost use Rattle.tramp_spec.specs.Banks.{bank_len};
+ghost use Rattle.code_store.specs.Operations.{Does, IsOperationOf, IsToolFlatBy, StepsBy, computes, is_access, reached};
 
-use rv_exec::{Flat, flattened};
+use rv_exec::{Flat, flattened, narrow};
 use rv_word::{Cause, Instr, LoadOp, StoreOp, decode};
 use tramp_spec::{Mark, MarkedWord};
 
@@ -107,7 +109,60 @@ fn other(is_tool: bool, instr: Option<Instr>) -> Operation
     }
 }
 
+/// Whether it is the flat of an access to memory.
+fn is_access(flat: Flat) -> bool
+    ensures { result ≡ is_access flat }
+{
+    matches!(
+        flat,
+        Flat::Lb(..)
+            | Flat::Lh(..)
+            | Flat::Lw(..)
+            | Flat::Ld(..)
+            | Flat::Lbu(..)
+            | Flat::Lhu(..)
+            | Flat::Lwu(..)
+            | Flat::Sb(..)
+            | Flat::Sh(..)
+            | Flat::Sw(..)
+            | Flat::Sd(..)
+    )
+}
+
+/// The flat of the tool's word with this operation, whose accesses are those of the bank. It is `Rest` where there is none.
+#[tactic(auto, using(crate::proofs::Operations::steps_alike))]
+fn flat_of_tool(word: u32, operation: &Operation) -> Flat
+    requires { Does bank_len (decode_of word) operation.now }
+    ensures { StepsBy (decode_of word) result }
+{
+    match *operation {
+        Operation::Run { flat, .. } if !is_access(flat) => flat,
+        Operation::LoadBank { rd, rs1, offset } if rd != 0 => match narrow(offset) {
+            Some(imm) => Flat::Ld(rd as u8, rs1 as u8, imm),
+            None => Flat::Rest,
+        },
+        Operation::StoreBank { rs1, rs2, offset } => match narrow(offset) {
+            Some(imm) => Flat::Sd(rs1 as u8, rs2 as u8, imm),
+            None => Flat::Rest,
+        },
+        _ => Flat::Rest,
+    }
+}
+
 impl Operation {
+    /// The flat of a word of the tool with this operation. For another word it is `Rest`.
+    pub(crate) fn tool_flat(&self, marked: MarkedWord) -> Flat
+        requires { IsOperationOf marked self.now }
+        ensures { IsToolFlatBy marked.mark (decode_of marked.word) result }
+    {
+        match marked.mark {
+            Mark::Tool => flat_of_tool(marked.word, self),
+            Mark::Own => Flat::Rest,
+            Mark::Enter => Flat::Rest,
+            Mark::Leave => Flat::Rest,
+        }
+    }
+
     /// The operation of a marked word.
     #[tactic(auto, using(crate::proofs::Operations::alike))]
     pub(crate) fn new(marked: MarkedWord) -> Operation

@@ -2,7 +2,8 @@
 
 ghost use Rattle.std.specs.Prelude.{◌≡◌};
 ghost use Rattle.tramp_spec.specs.Marks.{inside_after, is_jump, is_own};
-ghost use Rattle.code_store.specs.Operations.{IsMarkedFlat, IsOperationOf};
+ghost use Rattle.rv_word.specs.Table.{decode_of};
+ghost use Rattle.code_store.specs.Operations.{IsMarkedFlat, IsOperationOf, IsToolFlatBy};
 ghost use Rattle.code_store.specs.Stores.{marked};
 
 use crate::operation::Operation;
@@ -16,6 +17,8 @@ use tramp_spec::{Mark, MarkedWord};
 #[derive(Drop)]
 pub struct Slot {
     operation: Operation,
+    /// The flat of a word of the tool, and else `Rest`.
+    tool_flat: Flat,
     word: u32,
     mark: Mark,
     /// A hart that is inside stays so after the word.
@@ -28,14 +31,14 @@ impl Model for Slot {
     ghost use Rattle.std.specs.Prelude.{◌≡◌};
     ghost use Rattle.rv_word.specs.Table.{decode_of};
     ghost use Rattle.tramp_spec.specs.declared.mark.MarkedWord.{MarkedWord};
-    ghost use Rattle.code_store.specs.Operations.{IsOperationBy, enters_by, keeps_by};
+    ghost use Rattle.code_store.specs.Operations.{IsOperationBy, IsToolFlatBy, enters_by, keeps_by};
 
     ghost Value = { MarkedWord };
 
     ghost view = { λ s. record { word = s.word; mark = s.mark } };
 
     ghost invariant = { λ s. IsOperationBy s.mark (decode_of s.word) s.operation × (s.keeps_inside ≡ keeps_by s.mark s.word)
-        × (s.enters ≡ enters_by s.mark) };
+        × (s.enters ≡ enters_by s.mark) × IsToolFlatBy s.mark (decode_of s.word) s.tool_flat };
 }
 
 /// Whether a word is a jump: jal or jalr.
@@ -60,6 +63,7 @@ impl Slot {
     {
         Slot {
             operation,
+            tool_flat: operation.tool_flat(marked),
             word: marked.word,
             mark: marked.mark,
             keeps_inside: match marked.mark {
@@ -77,6 +81,7 @@ impl Slot {
     {
         Slot {
             operation: self.operation,
+            tool_flat: self.tool_flat,
             word: self.word,
             mark: self.mark,
             keeps_inside: self.keeps_inside,
@@ -97,6 +102,14 @@ impl Slot {
         ensures { IsOperationOf self.now result.now }
     {
         &self.operation
+    }
+
+    /// The flat of a word of the tool, by which a hart goes on inside; `Rest` for another word.
+    #[inline(always)]
+    pub fn tool_flat(&self) -> &Flat
+        ensures { IsToolFlatBy self.now.mark (decode_of self.now.word) result.now }
+    {
+        &self.tool_flat
     }
 
     /// The flat of the word, if it is one of the program, and else `Rest`.

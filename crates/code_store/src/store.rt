@@ -1,12 +1,13 @@
 //! The store of the words that harts fetch.
 
-ghost use Rattle.std.specs.Prelude.{◌≡◌, ℕ, false, true, ◌+◌, ◌-◌, ◌*◌, ◌/◌, ◌<◌, ◌≤◌, ◌^◌, ◌||◌, IfOk, IsTrue, length};
+ghost use Rattle.std.specs.Prelude.{◌≡◌, ℕ, false, true, ◌+◌, ◌-◌, ◌*◌, ◌/◌, ◌<◌, ◌≤◌, ◌^◌, ◌||◌, IfOk, IsTrue, Some, length, slice_index_or};
 ghost use Rattle.std.specs.FinMap.{get, insert, remove};
 ghost use Rattle.std.specs.List.{AllByRecursion};
 ghost use Rattle.std.specs.Option.{option_copied, option_map};
 ghost use Rattle.pn_types.specs.Images.{IsImage};
 ghost use Rattle.rv_word.specs.Plain.{program_word};
 ghost use Rattle.tramp_spec.specs.Codes.{fetched_at, is_text_word, is_tool_word, put_words, tool_at};
+ghost use Rattle.tramp_spec.specs.Marks.{tool};
 ghost use Rattle.code_store.specs.Owners.{owners_with, owners_without};
 ghost use Rattle.code_store.specs.Operations.{IsFlatAt};
 ghost use Rattle.code_store.specs.Stores.{first_code, marked, IsInToolText};
@@ -166,6 +167,16 @@ impl Store {
         ensures ends { result.0 + 4 * length result.1.now < 2 ^ 64 }
     {
         (self.text.at, self.flats.as_slice())
+    }
+
+    /// The first address of the tool text, and the slots of its words up to the last that was put.
+    #[inline(always)]
+    pub fn tool_slots(&self) -> (u64, &[Slot])
+        ensures slots { (place : ℕ) → place < length result.1.now
+            → fetched_at self.now.program self.now.code (result.0 + 4 * place) true ≡ Some (slice_index_or result.1.now place (tool 0)) }
+        ensures ends { result.0 + 4 * length result.1.now < 2 ^ 64 }
+    {
+        (self.tool.at, self.tool.slots.as_slice())
     }
 
     /// The first address of the tool text.

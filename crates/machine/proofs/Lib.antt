@@ -59,3 +59,4 @@ pub mod Inside
 pub mod SlotLists
 pub mod LinkedSites
 pub mod Stretches
+pub mod ToolRuns

@@ -20,5 +20,6 @@ pub mod Views
 pub mod Performing
 pub mod Alone
 pub mod Stretches
+pub mod ToolRuns
 pub mod LinkedSites
 pub mod Links

@@ -14,6 +14,7 @@ mod quantum;
 mod settling;
 mod slots;
 mod stretch;
+mod tool_words;
 mod turning;
 
 pub use instruments::Sample;

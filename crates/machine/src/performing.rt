@@ -1,6 +1,10 @@
 //! What a hart's word does: a word of the program on memory, reservations and output, another on the hart's bank.
 
-ghost use Rattle.std.specs.Prelude.{◌≡◌, ◌≤◌, ◌<◌, ◌/◌, ◌^◌, ℕ, List, true, false, None, Some, length, is_none};
+ghost use Rattle.std.specs.Prelude.{◌≡◌, ◌≤◌, ◌<◌, ◌/◌, ◌^◌, ℕ, List, true, false, None, Some, IfSome, length, is_none};
+ghost use Rattle.rv_word.specs.Exec.{exec_decoded};
+ghost use Rattle.rv_word.specs.Words.{HasWord};
+ghost use Rattle.rv_exec.specs.Flat.{IsFlatOf};
+ghost use Rattle.rv_exec.specs.Gives.{IsExecuted, next_after, state_of};
 ghost use Rattle.rv_exec.specs.Shared.{prog_in};
 ghost use Rattle.tramp_spec.specs.Banks.{bank_at, bank_len, is_in_bank, set_bank};
 ghost use Rattle.code_store.specs.Operations.{bank_loaded, bank_stored};
@@ -11,18 +15,23 @@ use crate::hart::HartState;
 use crate::turning::Progress;
 use code_store::{Operation, Slot};
 use pn_types::HartNo;
-use rv_exec::{Caller, Regs, Shared, run_or_execute};
-use rv_word::Cause;
+use rv_exec::{Caller, Flat, Pc, Regs, Shared, run_or_execute};
+use rv_word::{Cause, Instr};
 
 /// A word by itself.
 struct Alone;
 
 impl Caller for Alone {}
 
+/// A word whose flat did nothing.
+struct Wholly;
+
+impl Caller for Wholly {}
+
 /// The number of the doubleword at an address, or a number that is too great where the address is no multiple of 8: the address is
 /// rotated by three bits, so that one test finds both.
 #[inline(always)]
-fn doubleword_at(at: u64) -> u64
+pub fn doubleword_at(at: u64) -> u64
     ensures inside { (n : ℕ) → n ≤ 2 ^ 32 → result < n → (is_in_bank n at ≡ true) × (at / 8 ≡ result) }
     ensures outside { (n : ℕ) → n ≤ 2 ^ 32 → n ≤ result → is_in_bank n at ≡ false }
 {
@@ -31,7 +40,7 @@ fn doubleword_at(at: u64) -> u64
 
 /// A doubleword of the bank, of which the first reads as the ticks.
 #[inline(always)]
-fn read_bank(bank: &[u64], place: u64, ticks: u64) -> u64
+pub fn read_bank(bank: &[u64], place: u64, ticks: u64) -> u64
     requires { place < length bank.now }
     ensures { result ≡ bank_at ticks bank.now place }
 {
@@ -44,7 +53,7 @@ fn read_bank(bank: &[u64], place: u64, ticks: u64) -> u64
 
 /// Puts a doubleword into the bank, of which the first stays.
 #[inline(always)]
-fn write_bank(bank: &mut [u64], place: u64, value: u64)
+pub fn write_bank(bank: &mut [u64], place: u64, value: u64)
     requires { place < length bank.old }
     ensures { bank.new ≡ set_bank bank.old place value }
 {
@@ -103,6 +112,62 @@ fn store(value: u64, at: u64, pc: &mut u64, stop: &mut Option<Cause>, bank: &mut
     true
 }
 
+/// Executes the instruction at pc. It is a call of its own, so that a hart that just goes on copies no instruction.
+#[inline(never)]
+fn execute_wholly(
+    flat: &Flat,
+    instr: &Option<Instr>,
+    number: HartNo,
+    pc: &mut u64,
+    stop: &mut Option<Cause>,
+    regs: &mut Regs,
+    shared: &mut Shared,
+) -> bool
+    requires flat { IsFlatOf instr.now flat.now }
+    requires word { IfSome instr.now HasWord }
+    requires number { number < length shared.old.resv }
+    requires stop { stop.old ≡ None }
+    ensures goes { result ≡ is_none stop.new }
+    ensures state { IsExecuted (exec_decoded instr.now pc.old number)
+        (state_of regs.old (prog_in shared.old)) (next_after stop.new pc.new) (state_of regs.new (prog_in shared.new)) }
+{
+    run_or_execute::<Wholly>(flat, *instr, number, pc, stop, regs, shared)
+}
+
+/// Runs the word at pc by its flat, and executes its instruction where that does nothing.
+#[inline(always)]
+#[tactic(auto, using(rv_exec::proofs::Flats::goes_as))]
+fn run(
+    flat: &Flat,
+    instr: &Option<Instr>,
+    number: HartNo,
+    pc: &mut u64,
+    stop: &mut Option<Cause>,
+    regs: &mut Regs,
+    shared: &mut Shared,
+) -> bool
+    requires flat { IsFlatOf instr.now flat.now }
+    requires word { IfSome instr.now HasWord }
+    requires number { number < length shared.old.resv }
+    requires stop { stop.old ≡ None }
+    ensures goes { result ≡ is_none stop.new }
+    ensures state { IsExecuted (exec_decoded instr.now pc.old number)
+        (state_of regs.old (prog_in shared.old)) (next_after stop.new pc.new) (state_of regs.new (prog_in shared.new)) }
+{
+    let at = *pc;
+    if let Some(mut next) = Pc::new(at, at) {
+        if flat.run::<Alone>(number, &mut next, regs, shared) {
+            *pc = next.address();
+            return true;
+        }
+    }
+    // The pc goes in a place of its own, since it is kept in a register else.
+    let mut next = at;
+    let goes = execute_wholly(flat, instr, number, &mut next, stop, regs, shared);
+    *pc = next;
+    goes
+}
+
 /// Performs a slot's word at pc, by a hart that isn't stopped. It sets the next pc, or the cause for which the hart stops. Returns
 /// whether the hart goes on. A stop changes nothing else, but that the program's SC clears the hart's reservation also where it
 /// stops. It takes no memory.
@@ -125,7 +190,7 @@ pub fn perform(
     match slot.operation() {
         Operation::Run { flat, instr } => {
             let (pc, stop, regs) = (&mut progress.pc, &mut hart.stop, &mut hart.regs);
-            run_or_execute::<Alone>(flat, *instr, number, pc, stop, regs, shared)
+            run(flat, instr, number, pc, stop, regs, shared)
         }
         Operation::LoadBank { rd, rs1, offset } => {
             let at = hart.regs.get(*rs1).wrapping_add(*offset);

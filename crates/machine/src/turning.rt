@@ -10,6 +10,7 @@ ghost use Rattle.machine.specs.Performing.{solo_of};
 use crate::hart::{HartState, home};
 use crate::performing::perform;
 use crate::stretch::run_words;
+use crate::tool_words::run_tool_words;
 use code_store::Store;
 use pn_types::HartNo;
 use rv_exec::Shared;
@@ -71,8 +72,8 @@ fn take_turn(
     }
 }
 
-/// Takes turns of a hart that can take one, by words of the program one after another: at most `most`, and none where the hart is
-/// inside or such a word isn't next. Returns how many, and takes no memory.
+/// Takes turns of a hart that can take one, by words of the program one after another, or inside by those of the tool: at most `most`,
+/// and none where such a word isn't next. Returns how many, and takes no memory.
 #[inline(always)]
 fn take_words(
     progress: &mut Progress,
@@ -91,7 +92,8 @@ fn take_words(
     ensures harts { length shared.new.resv ≡ length shared.old.resv }
 {
     if progress.inside {
-        return 0;
+        let (regs, bank) = (&mut hart.regs, hart.bank.as_mut_slice());
+        return run_tool_words(most, number, progress, regs, bank, store, shared);
     }
     let words = (budget - progress.ticks).min(most as u64) as u32;
     let pc = &mut progress.pc;
@@ -100,8 +102,8 @@ fn take_words(
     turns
 }
 
-/// Takes turns of a hart that can take one: of words of the program one after another where such a word is next, at most `most`, and
-/// else one. Returns how many, and takes no memory.
+/// Takes turns of a hart that can take one, at most `most`: by words one after another, and then one more by the word at which these
+/// end, if the hart can take it. Returns how many, and takes no memory.
 #[inline(always)]
 fn take_some(
     progress: &mut Progress,
@@ -122,11 +124,11 @@ fn take_some(
     ensures harts { length shared.new.resv ≡ length shared.old.resv }
 {
     let words = take_words(progress, hart, number, most, budget, store, shared);
-    if words > 0 {
+    if words == most || !progress.may_turn(hart.stop, budget) {
         return words;
     }
     take_turn(progress, hart, number, store, shared);
-    1
+    words + 1
 }
 
 impl HartState {

@@ -6,7 +6,8 @@ ghost use Rattle.rv_exec.specs.Gives.{IsExecuted, state_of, next_after};
 ghost use Rattle.rv_exec.specs.Shared.{prog_in};
 
 use crate::executing::run_or_execute;
-use crate::flat::{Flat, flattened};
+use crate::flat::Flat;
+use crate::flat_of::flattened;
 use crate::regs::Regs;
 use crate::running::Caller;
 use crate::shared::Shared;

@@ -6,6 +6,7 @@ mod calling;
 mod decoded;
 mod executing;
 mod flat;
+mod flat_of;
 mod moves;
 mod outcomes;
 mod output;
@@ -20,7 +21,9 @@ mod values;
 
 pub use decoded::Decoded;
 pub use executing::{exec, run_or_execute};
-pub use flat::{Flat, flattened};
+pub use flat::Flat;
+pub use flat_of::{flattened, narrow};
+pub use moves::address;
 pub use output::Output;
 pub use pc::Pc;
 pub use regs::Regs;

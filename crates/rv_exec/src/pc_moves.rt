@@ -32,7 +32,7 @@ impl Pc {
 
     /// Goes on at the next word.
     #[inline(always)]
-    pub(crate) fn step(&mut self)
+    pub fn step(&mut self)
         ensures first { self.new.first ≡ self.old.first }
         ensures address { pc_address self.new ≡ next (pc_address self.old) }
     {
