@@ -3,7 +3,7 @@
 #![tactic(auto)]
 
 use pn_types::NoMemory;
-use quanta_log::{LogFault, read, write};
+use quanta_log::{LogError, read, write};
 use std::alloc::Global;
 use std::process::ExitCode;
 use std::{env, io};
@@ -30,7 +30,7 @@ fn log_of(alloc: Global, count: u32) -> Result<Vec<u8>, NoMemory> {
 }
 
 /// How many bytes are written in all.
-fn written(alloc: Global, log: &[u8], times: u32) -> Result<u64, LogFault> {
+fn written(alloc: Global, log: &[u8], times: u32) -> Result<u64, LogError> {
     let mut bytes: u64 = 0;
     for _ in 0..times {
         let (settings, quanta) = read(alloc, log)?;
