@@ -15,7 +15,7 @@ mod AskedNames
 mod AskedFoci
 pub mod OneDue
 pub mod Rising
-mod Procs
-mod Runnable
+pub mod Procs
+pub mod Runnable
 mod Opened
 mod Prepared

@@ -7,9 +7,9 @@ use Rattle.code_points.proofs.Ascending.{ascending, few_points}
 use Rattle.code_points.proofs.LowObjects.{low_objects}
 use Rattle.code_points.specs.Objects.{objects_of}
 use Rattle.code_points.specs.Points.{points_of}
-use Rattle.code_points.specs.Procedures.{AreProcsOf}
+use Rattle.code_points.specs.Procedures.{AreModulesGood, AreProcsOf}
 use Rattle.directives.proofs.Small.{small_after}
-use Rattle.elf_form.proofs.AcceptedImages.{accepted}
+use Rattle.elf_form.proofs.AcceptedImages.{accepted, good_modules}
 use Rattle.elf_form.proofs.Countable.{few_symbols}
 use Rattle.elf_form.specs.Meaning.{meaning_of}
 use Rattle.elf_form.specs.declared.fault.ElfFault.{ElfFault}
@@ -45,9 +45,10 @@ use Rattle.commands.proofs.Procs.{are_procs}
 
 -- ---- images
 
-record IsGood (image : Image) : Type 0 where
-  is : IsImage image
-  unscratched : IsUnscratched image
+pub record IsGood (image : Image) : Type 0 where
+  pub is : IsImage image
+  pub unscratched : IsUnscratched image
+  pub modules : AreModulesGood image
 
 elf_ok : (r : Result Image ElfFault) (image : Image) → or_bad_elf r ≡ Ok image → r ≡ Ok image
 elf_ok (Ok x) image e = cc
@@ -57,7 +58,8 @@ asm_ok : (r : Result Image AsmFault) (image : Image) → or_bad_text r ≡ Ok im
 asm_ok (Ok x) image e = cc
 asm_ok (Err fault) image e = absurd (cc)
 
-good_image : (bytes : List ℕ) (image : Image) → IsImageOf bytes image → IsGood image
+-- what a file's bytes mean is an image without x31, whose modules have good names
+pub good_image : (bytes : List ℕ) (image : Image) → IsImageOf bytes image → IsGood image
 good_image bytes image h = by (begins_elf bytes) h.means
   where
     by : (b : Bool) → cond b (or_bad_elf (meaning_of bytes)) (or_bad_text (assembled bytes)) ≡ Ok image → IsGood image
@@ -66,12 +68,12 @@ good_image bytes image h = by (begins_elf bytes) h.means
         let few = few_symbols bytes image m in
         let short = h.short in
         let a = accepted bytes image h.are m (omega arith) in
-        record { is = a.image; unscratched = a.unscratched }
+        record { is = a.image; unscratched = a.unscratched; modules = good_modules image a }
     by false e =
         let m = asm_ok (assembled bytes) image e in
         let short = h.short in
         let a = assembled_is bytes image m in
-        record { is = a.sound (omega arith); unscratched = a.unscratched }
+        record { is = a.sound (omega arith); unscratched = a.unscratched; modules = a.modules }
 
 -- ---- objects
 
