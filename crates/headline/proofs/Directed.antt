@@ -143,10 +143,10 @@ module _ (laws : DirectiveLaws) (i : Inputs) (quanta : List Quantum) (items : Li
     name : n.hypothesis ≡ hypothesis.name
     left : IsLeft items directives hypothesis
 
-  module _ (printed : SearchPart) (are : AreVerdicts i quanta printed) (rules : (rules_of i).hypotheses ≡ i.checked.hypotheses) where
+  module _ (printed : SearchPart) (nodes : printed.nodes ≡ map (node_part i) ended.nodes) (are : AreVerdicts i quanta) (rules : (rules_of i).hypotheses ≡ i.checked.hypotheses) where
     node_of : (k : ℕ) (n : NodePart) → slice_get printed.nodes k ≡ Some n → IsOf k n
     node_of k n e =
-        let s = source i ended.nodes k n (subst (λ (l : List NodePart). slice_get l k ≡ Some n) are.nodes e) in
+        let s = source i ended.nodes k n (subst (λ (l : List NodePart). slice_get l k ≡ Some n) nodes e) in
         let h = hypothesis_there ended are.history k s.node s.there in
         let own : slice_get (rules_of i).hypotheses s.node.hypothesis ≡ Some h.0 = subst (λ (r : Rules). slice_get r.hypotheses s.node.hypothesis ≡ Some h.0) are.rules h.1 in
         let there : slice_get i.checked.hypotheses s.node.hypothesis ≡ Some h.0 = subst (λ (hs : List Hypothesis). slice_get hs s.node.hypothesis ≡ Some h.0) rules own in
@@ -189,9 +189,9 @@ module _ (laws : DirectiveLaws) (i : Inputs) (quanta : List Quantum) (items : Li
     all_followed : AreFollowed items directives printed
     all_followed = record { pruned = pruned_of; axes = same_of; thresholds = verdict_of }
 
-  followed : (o : Option SearchDecl) → i.checked.search ≡ o → IfSome (search_part i o ended.nodes) (AreVerdicts i quanta) → IfSome (search_part i o ended.nodes) (AreFollowed items directives)
+  followed : (o : Option SearchDecl) → i.checked.search ≡ o → AreVerdicts i quanta → IfSome (search_part i o ended.nodes) (AreFollowed items directives)
   followed None e are = tt
-  followed (Some decl) e are = all_followed (record { full = nat_le most_nodes (length ended.nodes); window = decl.window; nodes = map (node_part i) ended.nodes }) are (ap (λ (d : Option SearchDecl). (rules_by d i).hypotheses) e)
+  followed (Some decl) e are = all_followed (record { full = nat_le most_nodes (length ended.nodes); window = decl.window; nodes = map (node_part i) ended.nodes }) refl are (ap (λ (d : Option SearchDecl). (rules_by d i).hypotheses) e)
 
   -- the search of an honest report
   pub report_follows : IsHonest i quanta (parts_of i (end_of i quanta)) → IfSome (parts_of i (end_of i quanta)).search (AreFollowed items directives)

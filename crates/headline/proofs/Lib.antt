@@ -1,6 +1,6 @@
 mod OneOwed
 mod Served
-mod Complete
+pub mod Complete
 mod Histories
 mod Times
 mod ReportViews
@@ -15,9 +15,15 @@ mod ShippedNarrow
 mod NarrowAfter
 mod Runnable
 mod Ranges
-mod Steps
+pub mod Steps
 mod Files
 mod Views
 mod StressTexts
 mod Meant
 mod Told
+mod ToldOnce
+mod AskedFoci
+mod Asked
+mod Summed
+mod Observed
+mod WarmStarts

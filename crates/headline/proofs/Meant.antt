@@ -77,13 +77,16 @@ use Rattle.commands.specs.declared.inputs.Inputs.{Inputs}
 use Rattle.commands.specs.declared.texts.Texts.{Texts}
 use Rattle.rv_asm.specs.declared.fault.AsmFault.{AsmFault}
 use Rattle.headline.specs.Headline.{AreViews, IsAsked, IsConfigurationOf, IsDirectedBy, IsLogOf, IsPlain, IsProgramOf, IsRunOf, Run, Tells, report_of}
+use Rattle.profile_text.specs.Laws.{LinesAddUp}
 use Rattle.headline.specs.Honest.{end_of}
 use Rattle.headline.proofs.Directed.{DirectiveLaws, IsMade, report_follows}
 use Rattle.headline.proofs.Files.{IsOfBytes, inputs_of, log_read, meant_again, program_of}
-use Rattle.headline.proofs.Ranges.{IsRanged}
+use Rattle.headline.proofs.Asked.{asked_at}
+use Rattle.headline.proofs.Ranges.{IsPaced, IsRanged}
+use Rattle.headline.proofs.Summed.{lines_summed}
 use Rattle.headline.proofs.Reports.{IsRunnable, Laws, honest}
 use Rattle.headline.proofs.Runnable.{runnable}
-use Rattle.headline.proofs.Steps.{came, content_of, ok_is, opened}
+use Rattle.headline.proofs.Steps.{came, content_of, ok_is, opened, opens}
 use Rattle.headline.proofs.ReportViews.{diff_tells, show_tells}
 use Rattle.report_reader.specs.Laws.{ReportIsSpelled}
 use Rattle.headline.proofs.StressTexts.{program_bytes}
@@ -100,6 +103,7 @@ pub record AllLaws : Type 0 where
   pub fit : WholeFit
   pub spelled : ReportIsSpelled
   pub profiles : ProfileIsSpelled
+  pub lines : LinesAddUp
 
 -- ---- a run
 
@@ -122,9 +126,9 @@ module _ (laws : AllLaws) (sees : FileReading) where
     can : IsRunnable r.inputs
 
   made_run : (program conf : List ℕ) (image : Image) (conf_is made : Conf) (found : Found) (settings : Settings) (quanta : List Quantum) → IsProgramOf sees program image
-      → IsConfigurationOf sees conf conf_is → MakesOf conf_is made → AreFound image settings.harts made found → AreInRange settings → IsWhole (inputs_with image found settings) quanta
+      → IsConfigurationOf sees conf conf_is → MakesOf conf_is made → AreFound image settings.harts made found → AreInRange settings → bad_pick (inputs_with image found settings) ≡ None → IsWhole (inputs_with image found settings) quanta
       → IsMadeRun program conf (run_with image conf_is made found settings quanta)
-  made_run program conf image conf_is made found settings quanta p c makes are range whole =
+  made_run program conf image conf_is made found settings quanta p c makes are range opening whole =
       let can = runnable laws.can p.0 c.0 image conf_is made found settings p.2 c.2 makes are range in
       record {
         run_of = record {
@@ -133,6 +137,7 @@ module _ (laws : AllLaws) (sees : FileReading) where
           found = found;
           accepted = are;
           given = refl;
+          opened = opening;
           whole = whole;
           honest = honest laws.reports (inputs_with image found settings) quanta can;
         };
@@ -154,10 +159,10 @@ module _ (laws : AllLaws) (sees : FileReading) where
     is : texts ≡ texts_of r.inputs r.quanta
 
   plain_run : (s : SessionRequest) (InOrder : Order) (texts_of : SessionInputs → List Quantum → Texts) (texts : Texts) (image : Image) (conf : Conf) (found : Found) (quanta : List Quantum)
-      → IsProgramOf sees s.program image → IsConfigurationOf sees s.conf conf → AreFound image s.settings.harts conf found → AreInRange s.settings
+      → IsProgramOf sees s.program image → IsConfigurationOf sees s.conf conf → AreFound image s.settings.harts conf found → AreInRange s.settings → bad_pick (inputs_with image found s.settings) ≡ None
       → IsWhole (inputs_with image found s.settings) quanta → InOrder (inputs_with image found s.settings) quanta → texts ≡ texts_of (inputs_with image found s.settings) quanta → IsRun s InOrder texts_of texts
-  plain_run s InOrder texts_of texts image conf found quanta p c are range whole order is =
-      let m = made_run s.program s.conf image conf conf found s.settings quanta p c (inl refl) are range whole in
+  plain_run s InOrder texts_of texts image conf found quanta p c are range opening whole order is =
+      let m = made_run s.program s.conf image conf conf found s.settings quanta p c (inl refl) are range opening whole in
       record { r = run_with image conf conf found s.settings quanta; asked = (m.run_of, refl, order); plain = refl; can = m.can; parts = refl; is = is }
 
   asked_run : (s : SessionRequest) (InOrder : Order) (texts_of : SessionInputs → List Quantum → Texts) (texts : Texts) → IsOfBytes sees s.program → AreInRange s.settings
@@ -173,15 +178,15 @@ module _ (laws : AllLaws) (sees : FileReading) where
       let ran : IsSession InOrder texts_of i (Ok texts) = subst (λ (x : SessionInputs). IsSession InOrder texts_of x (Ok texts)) is p.next in
       let t = opened (bad_pick i) i (AreTexts InOrder texts_of i) texts ran in
       let read = inputs_of sees s.program s.conf a.a bytes a.first in
-      plain_run s InOrder texts_of texts (a.a).image (a.a).conf f.a t.0 read.holds_program read.holds_conf f.first range (whole_in i t.0 t.1) t.1 (ok_is texts (texts_of i t.0) t.2)
+      plain_run s InOrder texts_of texts (a.a).image (a.a).conf f.a t.0 read.holds_program read.holds_conf f.first range (subst (λ (x : SessionInputs). bad_pick x ≡ None) is (opens (bad_pick p.a) p.a (AreTexts InOrder texts_of p.a) texts p.next)) (whole_in i t.0 t.1) t.1 (ok_is texts (texts_of i t.0) t.2)
 
   -- its report and its log
   module _ (s : SessionRequest) (InOrder : Order) (texts : Texts) (k : IsRun s InOrder report_and_log texts) where
     reported : texts.out ≡ report_of k.r
     reported = ap (λ (t : Texts). t.out) k.is ∙ ap (λ (p : ReportParts). report_text p (skipped_of k.r.inputs.image)) k.parts
 
-    log_names : IsLogOf texts.log k.r
-    log_names = ap (λ (t : Texts). meaning_of t.log) k.is ∙ logged k.r.inputs k.r.quanta k.can k.asked.0.whole
+    log_names : (texts.log ≡ log_of k.r.inputs k.r.quanta) × IsLogOf texts.log k.r
+    log_names = let is = ap (λ (t : Texts). t.log) k.is in (is, ap meaning_of is ∙ logged k.r.inputs k.r.quanta k.can k.asked.0.whole)
 
   -- the samples that views were given of each pair
   viewed : (i : SessionInputs) (quanta : List Quantum) → IsRunnable i → (n : ℕ) (part : ShownPart) → slice_get (parts_of i (end_of i quanta)).shown n ≡ Some part
@@ -196,12 +201,12 @@ module _ (laws : AllLaws) (sees : FileReading) where
     run_tells : (q : RunRequest) → AreInRange q.session.settings → IsRunDue q sees (Ok texts) → Tells (Some (run q)) sees texts
     run_tells q range due =
         let k = asked_run q.session (IsInOrder q.order) report_and_log texts (bytes q.session.program) range (λ i quanta o. o.whole) due in
-        (k.r, k.asked, k.plain, reported q.session (IsInOrder q.order) texts k, log_names q.session (IsInOrder q.order) texts k)
+        (let log = log_names q.session (IsInOrder q.order) texts k in (k.r, k.asked, k.plain, reported q.session (IsInOrder q.order) texts k, log.0, log.1))
 
     live_tells : (q : LiveRequest) → AreInRange q.session.settings → IsLiveDue q sees (Ok texts) → Tells (Some (live q)) sees texts
     live_tells q range due =
         let k = asked_run q.session (IsByWorkers q.workers q.quantum) report_and_log texts (bytes q.session.program) range (λ i quanta o. o.whole) due in
-        (k.r, k.asked, k.plain, reported q.session (IsByWorkers q.workers q.quantum) texts k, log_names q.session (IsByWorkers q.workers q.quantum) texts k)
+        (let log = log_names q.session (IsByWorkers q.workers q.quantum) texts k in (k.r, k.asked, k.plain, reported q.session (IsByWorkers q.workers q.quantum) texts k, log.0, log.1))
 
     visi_tells : (q : VisiRequest) → AreInRange q.session.settings → IsVisiDue q sees (Ok texts) → Tells (Some (visi q)) sees texts
     visi_tells q range due =
@@ -209,7 +214,6 @@ module _ (laws : AllLaws) (sees : FileReading) where
         let r = k.r in
         let feed = feed_of r.inputs r.quanta in
         let views : AreViews q.views r texts.out = record {
-          feed = feed;
           is = ap (λ (t : Texts). t.out) k.is ∙ ap (λ (p : ReportParts). visi_text p.shown (replicate q.views feed)) k.parts;
           samples = λ n part e. viewed r.inputs r.quanta k.can n part (subst (λ (p : ReportParts). slice_get p.shown n ≡ Some part) (sym k.parts) e);
         } in
@@ -237,7 +241,7 @@ module _ (laws : AllLaws) (sees : FileReading) where
         let able = read_log.able in
         let whole : IsWhole i quanta = (laws.fit i quanta able.quanta able.few).0 fits.0 in
         let read = inputs_of sees q.program q.conf a.a (bytes q.program) a.first in
-        let m = made_run q.program q.conf image (a.a).conf (a.a).conf f.a settings quanta read.holds_program read.holds_conf (inl refl) f.first able.settings whole in
+        let m = made_run q.program q.conf image (a.a).conf (a.a).conf f.a settings quanta read.holds_program read.holds_conf (inl refl) f.first able.settings (opens (bad_pick i) i (λ t. t ≡ replayed (misfit_of i quanta) l.a i) texts f.next) whole in
         (run_with image (a.a).conf (a.a).conf f.a settings quanta, m.run_of, refl, (read_log.log, read_log.told, read_log.means), fits.1)
 
     -- ---- direct
@@ -284,7 +288,7 @@ module _ (laws : AllLaws) (sees : FileReading) where
         applied_is (m.a).items (applied shipped_conf.items conf.items d.a) (spelled_is (or_bad_directives (applied shipped_conf.items conf.items d.a)) m.a m.first) in
         let text = came (IsDirectivesContent sees q.directives) MeansDirectives d.a d.first in
         let read = inputs_of sees s.program s.conf a.a (bytes s.program) a.first in
-        let ran = made_run s.program s.conf image conf m.a g.a settings t.0 read.holds_program read.holds_conf (inr (d.a, made)) g.first range (t.1).whole in
+        let ran = made_run s.program s.conf image conf m.a g.a settings t.0 read.holds_program read.holds_conf (inr (d.a, made)) g.first range (opens (bad_pick i) i (AreTexts (IsInOrder q.order) report_alone i) texts g.next) (t.1).whole in
         let are : IsMade conf.items d.a i.checked = made_of image settings.harts conf m.a d.a f.a g.a f.first made g.first in
         let given : IsDirectedBy sees q.directives (run_with image conf m.a g.a settings t.0) = record {
           text = text.a;
@@ -303,11 +307,12 @@ module _ (laws : AllLaws) (sees : FileReading) where
         let p = came (IsProgramOfFile sees q.program) (AreCounted q) texts due in
         (p.a, program_of sees q.program p.a (bytes q.program) p.first, p.next)
 
-    profile_tells : (q : ProfileRequest) → IsProfileDue q sees (Ok texts) → Tells (Some (profile q)) sees texts
-    profile_tells q due =
+    profile_tells : (q : ProfileRequest) → IsPaced q.source.counted → IsProfileDue q sees (Ok texts) → Tells (Some (profile q)) sees texts
+    profile_tells q paced due =
         let p = came (IsProgramOfFile sees q.source.counted.program) (AreProfileTexts q) texts due in
+        let program = program_of sees q.source.counted.program p.a (bytes q.source.counted.program) p.first in
         let r = came (IsProfiled q.source p.a) (λ r t. t ≡ Ok (profile_texts q p.a r)) texts p.next in
-        (p.a, program_of sees q.source.counted.program p.a (bytes q.source.counted.program) p.first, r.a, r.first, ok_is texts (profile_texts q p.a r.a) r.next)
+        (p.a, program, r.a, r.first, lines_summed laws.lines program.0 p.a q.source r.a program.2 paced r.first, ok_is texts (profile_texts q p.a r.a) r.next)
 
     -- what is shown of an image's profile in a unit
     abbrev IsUnitTold : AnnotationUnit → AnnotateRequest → List ℕ → Image → Option (List ℕ) → Type 0
@@ -345,12 +350,13 @@ module _ (laws : AllLaws) (sees : FileReading) where
         let read = inputs_of sees q.program q.conf a.a (bytes q.program) a.first in
         ((a.a).image, read.holds_program, (a.a).conf, read.holds_conf, f.a, f.first, f.next)
 
-    ask_tells : (q : AskRequest) → IsAskDue q sees (Ok texts) → Tells (Some (ask q)) sees texts
-    ask_tells q due =
+    ask_tells : (q : AskRequest) → IsPaced q.counted → IsAskDue q sees (Ok texts) → Tells (Some (ask q)) sees texts
+    ask_tells q paced due =
         let p = came (IsProgramOfFile sees q.counted.program) (IsAskOf q) texts due in
         let c = came (MeansConf shipped_metrics) (IsAskFor q p.a) texts p.next in
         let f = came (IsFound p.a q.counted.harts c.a) (IsAsk q p.a) texts c.next in
-        (p.a, program_of sees q.counted.program p.a (bytes q.counted.program) p.first, c.a, record { short = omega arith; spelled = c.first }, f.a, f.first, f.next)
+        let program = program_of sees q.counted.program p.a (bytes q.counted.program) p.first in
+        (p.a, program, c.a, record { short = omega arith; spelled = c.first }, f.a, f.first, asked_at q program.0 p.a c.a f.a texts program.2 paced f.first f.next)
 
     file_is : (file : List ℕ) (x : Result (List ℕ) AsmFault) → Ok file ≡ or_bad_text x → x ≡ Ok file
     file_is file (Ok made) e = ap (λ (l : List ℕ). Ok l) (sym (ok_is file made e))
@@ -373,7 +379,7 @@ module _ (laws : AllLaws) (sees : FileReading) where
         let quanta : List Quantum = l.a.quanta in
         let read_log = log_read sees name (bytes name) texts (λ log t. t ≡ Ok (output (spelled Two log.settings log.quanta))) l in
         let is : texts ≡ output (spelled Two settings quanta) = ok_is texts (output (spelled Two settings quanta)) l.next in
-        (read_log.log, read_log.told, (settings, quanta), read_log.means, ap (λ (t : Texts). meaning_of t.out) is ∙ laws.logs Two settings quanta read_log.able, ap (λ (t : Texts). t.log) is)
+        (read_log.log, read_log.told, (settings, quanta), read_log.means, ap (λ (t : Texts). meaning_of t.out) is ∙ laws.logs Two settings quanta read_log.able, is)
 
     advised_is : (x : Result (List Verdict) ReportFault) → Ok texts ≡ advice_texts x → (verdicts : List Verdict) × (x ≡ Ok verdicts) × (texts ≡ output (advice verdicts))
     advised_is (Ok verdicts) e = (verdicts, refl, ok_is texts (output (advice verdicts)) e)
@@ -423,9 +429,9 @@ tells laws sees bytes texts (Some (points name)) range due = points_tell laws se
 tells laws sees bytes texts (Some (asm name)) range due = asm_tells laws sees bytes texts name due
 tells laws sees bytes texts (Some (relog name)) range due = relog_tells laws sees bytes texts name due
 tells laws sees bytes texts (Some (blocks q)) range due = blocks_tell laws sees bytes texts q due
-tells laws sees bytes texts (Some (profile q)) range due = profile_tells laws sees bytes texts q due
+tells laws sees bytes texts (Some (profile q)) range due = profile_tells laws sees bytes texts q (range (profile q) refl) due
 tells laws sees bytes texts (Some (annotate q)) range due = annotate_tells laws sees bytes texts q due
 tells laws sees bytes texts (Some (advise name)) range due = advise_tells laws sees bytes texts name due
 tells laws sees bytes texts (Some (show q)) range due = show_tells laws.spelled sees texts q due
 tells laws sees bytes texts (Some (diff q)) range due = diff_tells laws.spelled laws.profiles sees texts q due
-tells laws sees bytes texts (Some (ask q)) range due = ask_tells laws sees bytes texts q due
+tells laws sees bytes texts (Some (ask q)) range due = ask_tells laws sees bytes texts q (range (ask q) refl) due

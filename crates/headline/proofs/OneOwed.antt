@@ -37,7 +37,7 @@ naming (NoProcedure name) = Other (NoProcedure name) tt
 naming NoLines = Other NoLines tt
 naming (BadLines place) = Other (BadLines place) tt
 
-same_bytes : (holding : Holding) (x y : List ℕ) → IsSome holding → IsWhole holding x → IsWhole holding y → x ≡ y
+pub same_bytes : (holding : Holding) (x y : List ℕ) → IsSome holding → IsWhole holding x → IsWhole holding y → x ≡ y
 same_bytes None x y told a b = absurd (cc)
 same_bytes (Some None) x y told a b = absurd a
 same_bytes (Some (Some file)) x y told a b = a ∙ sym b

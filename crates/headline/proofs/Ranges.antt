@@ -5,12 +5,14 @@ use Rattle.std.specs.Option.{option_and_then, option_map_or}
 use Rattle.std.proofs.lemmas.Bool.{leb-true}
 use Rattle.pn_text.specs.Numbers.{small_number}
 use Rattle.pn_types.specs.Settings.{AreInRange}
+use Rattle.pn_types.specs.declared.limits.TheConstants.{MAX_BUDGET, MAX_HARTS}
 use Rattle.pn_types.specs.declared.settings.Settings.{Settings}
 use Rattle.command_words.proofs.Ranges.{number_is_at_most}
+use Rattle.command_words.specs.Addresses.{also_given}
 use Rattle.command_words.specs.Commands.{command_named, form_of}
 use Rattle.command_words.specs.Grammar.{Given, Text, given_in, taken_of}
 use Rattle.command_words.specs.Numbers.{NumberOption, bins_option, budget_option, harts_option, instruments_option, number_between, number_given, quantum_option, columns_option, top_option, views_option, width_option, workers_option}
-use Rattle.command_words.specs.Requests.{Request, SessionRequest, run, live, replay, plan, asm, points, relog, stress, blocks, visi, advise, direct, profile, annotate, show, diff, ask, each_given, format_given, interval_given, blocks_of, profile_source, shape_given, unit_given, order_of, place_in, request_from, request_of, session_of, settings_of, start_given}
+use Rattle.command_words.specs.Requests.{BlocksRequest, ProfileSource, Request, SessionRequest, run, live, replay, plan, asm, points, relog, stress, blocks, visi, advise, direct, profile, annotate, show, diff, ask, each_given, format_given, interval_given, blocks_of, profile_source, shape_given, unit_given, order_of, place_in, request_from, request_of, session_of, settings_of, start_given}
 use Rattle.command_words.specs.declared.commands.CommandName.{CommandName}
 use Rattle.command_words.specs.declared.commands.CommandName.TheVariants.{Run, Live, Replay, Asm, Points, Plan, Stress, Relog, Blocks, Visi, Advise, Direct, Profile, Annotate, Show, Diff, Ask}
 
@@ -80,9 +82,25 @@ session_in_range given s e =
     let m = mapped (settings_of given) _ s e in
     subst (λ (x : SessionRequest). AreInRange x.settings) m.to (in_range given m.a m.is)
 
+-- ---- counted blocks
+
+-- no more harts than a machine can have, and no more ticks than a hart can take
+pub record IsPaced (r : BlocksRequest) : Type 0 where
+  pub harts : r.harts ≤ MAX_HARTS
+  pub budget : r.budget ≤ MAX_BUDGET
+
+blocks_paced : (given : Given) (r : BlocksRequest) → blocks_of given ≡ Some r → IsPaced r
+blocks_paced given r e =
+    let h = found (number_given given harts_option) _ r e in
+    let t = found (number_given given budget_option) _ r h.then in
+    let m = mapped (order_of given) _ r t.then in
+    let harts = given_between harts_option given h.a (omega arith) (omega arith) h.is in
+    let budget = given_between budget_option given t.a (omega arith) (omega arith) t.is in
+    subst IsPaced m.to (record { harts = harts.1; budget = budget.1 })
+
 -- ---- requests
 
--- what is asked of the numbers of a request where a session is made for it
+-- what is asked of the numbers of a request where a session is made for it, or a profile
 abbrev pub IsRanged : Request → Type 0
 IsRanged (run r) = AreInRange r.session.settings
 IsRanged (live r) = AreInRange r.session.settings
@@ -96,11 +114,11 @@ IsRanged (blocks r) = Unit {0}
 IsRanged (visi r) = AreInRange r.session.settings
 IsRanged (advise report) = Unit {0}
 IsRanged (direct r) = AreInRange r.session.settings
-IsRanged (profile r) = Unit {0}
+IsRanged (profile r) = IsPaced r.source.counted
 IsRanged (annotate r) = Unit {0}
 IsRanged (show r) = Unit {0}
 IsRanged (diff r) = Unit {0}
-IsRanged (ask r) = Unit {0}
+IsRanged (ask r) = IsPaced r.counted
 
 some_is : (q r : Request) → ◌≡◌ {A = Option Request} (Some q) (Some r) → q ≡ r
 some_is q r e = cc
@@ -140,7 +158,9 @@ from_ranged Profile given q e =
     let s = found (profile_source given) _ q e in
     let d = found (shape_given given) _ q s.then in
     let m = mapped (number_given given top_option) _ q d.then in
-    subst IsRanged m.to tt
+    let b = found (blocks_of given) _ s.a s.is in
+    let a = mapped (also_given given) _ s.a b.then in
+    subst IsRanged m.to (subst (λ (x : ProfileSource). IsPaced x.counted) a.to (blocks_paced given b.a b.is))
 from_ranged Annotate given q e =
     let s = found (profile_source given) _ q e in
     let m = mapped (unit_given given) _ q s.then in
@@ -155,7 +175,7 @@ from_ranged Ask given q e =
     let k = found (each_given given) _ q c.then in
     let i = found (interval_given given) _ q k.then in
     let m = mapped (number_given given instruments_option) _ q i.then in
-    subst IsRanged m.to tt
+    subst IsRanged m.to (blocks_paced given c.a c.is)
 
 pub ranged : (words : List Text) (q : Request) → request_of words ≡ Some q → IsRanged q
 ranged [] q e = absurd (cc)

@@ -32,16 +32,16 @@ show_tells spelled sees texts q due =
     let r = came (IsReportContent sees q.report) (λ bytes t. t ≡ report_view_texts q (report_in bytes)) texts due in
     let c = content_of sees 33554432 _ q.report r.a r.first in
     let v = view_is q texts (report_in r.a) r.next in
-    (r.a, c.told, v.0, spelled r.a v.0 v.1, v.2)
+    (r.a, c.told, v.0, v.1, spelled r.a v.0 v.1, v.2)
 
 -- ---- diff
 
 report_compared : ReportIsSpelled → (bad : ℕ → Fault) (bytes : List ℕ) (c : ComparedFile) (x : Result Report ReportFault) → report_in bytes ≡ x → Ok c ≡ compared_report bad x → IsComparedText bytes c
-report_compared spelled bad bytes c (Ok r) is e = inl (r, spelled bytes r is, ok_is c (record { is_profile = false; parts = r.parts }) e)
+report_compared spelled bad bytes c (Ok r) is e = inl (r, is, spelled bytes r is, ok_is c (record { is_profile = false; parts = r.parts }) e)
 report_compared spelled bad bytes c (Err (fault.BadReport place)) is e = absurd (cc)
 
 profile_compared : ProfileIsSpelled → (bad : ℕ → Fault) (bytes : List ℕ) (c : ComparedFile) (x : Result ReadProfile ReportFault) → profile_in bytes ≡ x → Ok c ≡ compared_profile bad x → IsComparedText bytes c
-profile_compared spelled bad bytes c (Ok p) is e = inr (p, spelled bytes p is, ok_is c (record { is_profile = true; parts = profile_parts p }) e)
+profile_compared spelled bad bytes c (Ok p) is e = inr (p, is, spelled bytes p is, ok_is c (record { is_profile = true; parts = profile_parts p }) e)
 profile_compared spelled bad bytes c (Err (fault.BadReport place)) is e = absurd (cc)
 
 compared_text : ReportIsSpelled → ProfileIsSpelled → (bad : ℕ → Fault) (bytes : List ℕ) (c : ComparedFile) (is : Bool) → begins_profile bytes ≡ is → Ok c ≡ compared_file bad bytes → IsComparedText bytes c

@@ -1,5 +1,6 @@
 -- What is owed for words, from what their answer came to.
 use Rattle.std.proofs.Common.{◌≡◌, inl, inr, ℕ, List, Some, Result, Ok, Err, refl, subst, arith}
+use Rattle.std.specs.Prelude.{IfOk}
 use Rattle.outside.specs.Outside.{Holding}
 use Rattle.refusals.specs.Refusals.{Comes}
 use Rattle.refusals.specs.declared.fault.Fault.{Fault}
@@ -7,7 +8,8 @@ use Rattle.refusals.specs.declared.fault.Fault.TheVariants.{Usage, FileFault, Ba
 use Rattle.refusals.specs.declared.refusal.Refusal.{Refusal}
 use Rattle.refusals.specs.declared.refusal.Refusal.TheVariants as refusal
 use Rattle.commands.specs.Due.{IsDue}
-use Rattle.headline.specs.Serving.{IsOwed, IsUntold, told_of}
+use Rattle.headline.specs.Serving.{IsOwed, IsReplied, IsReply, IsUntold, told_of}
+use Rattle.headline.specs.declared.replying.Reply.{Reply}
 use Rattle.commands.specs.FileReadings.{reads, Counted, Looks}
 use Rattle.commands.specs.declared.texts.Texts.{Texts}
 
@@ -46,6 +48,12 @@ module _ {F : Type 0} (holds : F → List ℕ → Holding) (faults : F → List 
   untold (Ok texts) due looks = inl looks.counts
   untold (Err (refusal.Fault fault)) due looks = untold_fault fault due looks
   untold (Err refusal.NoMemory) due looks = inl looks.counts
+
+  -- what is handed over is what is owed
+  pub replied : {E : Type 0} (r : Result Texts Refusal) (reply : Result Reply E) → IsComing r → Looks holds faults old new r
+      → IfOk reply (λ given. (answer : Result Texts Fault) × (told_of r ≡ Some answer) × IsReply answer given) → IsReplied holds faults old new words reply
+  replied r (Ok reply) due looks given = (given.0, owed r given.0 due looks given.1, given.2)
+  replied r (Err e) due looks given = untold r due looks
 
 -- an answer for which no file was read
 pub unlooked : {A F : Type 0} (holds : F → List ℕ → Holding) (faults : F → List ℕ → ℕ) (files : F) (r : Result A Refusal) → Looks holds faults files files r

@@ -29,6 +29,10 @@ pub opened : (o : Option RefusedWish) (i : Inputs) (comes : Step Texts) (texts :
 opened None i comes texts h = h
 opened (Some wish) i comes texts e = absurd (let no : Ok texts ≡ Err (pick_fault i wish) = e in cc)
 
+pub opens : (o : Option RefusedWish) (i : Inputs) (comes : Step Texts) (texts : Texts) → IsOpened o i comes (Ok texts) → o ≡ None
+opens None i comes texts h = refl
+opens (Some wish) i comes texts e = absurd (let no : Ok texts ≡ Err (pick_fault i wish) = e in cc)
+
 -- ---- files
 
 -- what a file has is what was seen of it, and it isn't too long

@@ -8,7 +8,7 @@ use Rattle.code_points.specs.Points.{points_of}
 use Rattle.code_points.specs.Procedures.{procedures_of, skipped_of}
 use Rattle.command_words.specs.Requests.{Request, SessionRequest, run, live, replay, visi, direct, stress}
 use Rattle.command_words.specs.Requests.{blocks, profile, annotate, points, plan, asm, relog, advise, show, diff, ask}
-use Rattle.commands.specs.Asking.{IsAsk, shipped_metrics}
+use Rattle.commands.specs.Asking.{shipped_metrics}
 use Rattle.commands.specs.Blocks.{AreCounted, pace_of}
 use Rattle.commands.specs.Differing.{diff_of}
 use Rattle.commands.specs.Found.{AreFound}
@@ -32,23 +32,30 @@ use Rattle.pn_types.specs.declared.image.Image.{Image}
 use Rattle.pn_types.specs.declared.quantum.Quantum.{Quantum}
 use Rattle.pn_types.specs.declared.settings.Settings.{Settings}
 use Rattle.profile_reader.specs.Pairs.{profile_parts}
-use Rattle.profile_reader.specs.Reading.{profile_spelling}
+use Rattle.profile_reader.specs.Reading.{profile_in, profile_spelling}
 use Rattle.profile_reader.specs.declared.profile.ReadProfile.{ReadProfile}
 use Rattle.quanta_log.specs.Meaning.{meaning_of}
+use Rattle.quanta_log.specs.Spelling.{spelled}
+use Rattle.quanta_log.specs.declared.version.Version.TheVariants.{Two}
 use Rattle.report.specs.Text.{report_text}
 use Rattle.report.specs.Points.{points_text}
 use Rattle.report.specs.declared.parts.ReportParts.{ReportParts}
 use Rattle.report.specs.declared.parts.ShownPart.{ShownPart}
+use Rattle.report_reader.specs.Reading.{report_in}
 use Rattle.report_reader.specs.declared.whole_report.Report.{Report}
 use Rattle.session.specs.Bins.{IsPartOf}
 use Rattle.session_spec.specs.Feed.{told_at}
 use Rattle.session_spec.specs.Inputs.{Inputs}
+use Rattle.session_spec.specs.Opening.{bad_pick}
 use Rattle.session_spec.specs.Work.{IsWhole}
-use Rattle.session_spec.specs.declared.data.LatestSample.{LatestSample}
 use Rattle.stress_run.specs.Summary.{summary_text}
+use Rattle.visi_run.specs.Feed.{feed_of}
 use Rattle.visi_run.specs.Texts.{visi_text}
+use Rattle.whole_run.specs.Recorded.{log_of}
 use Rattle.word_counts.specs.Profiles.{IsProfile}
 use Rattle.word_counts.specs.declared.profile.Profile.{Profile}
+use Rattle.profile_text.specs.Laws.{DoLinesAddUp}
+use Rattle.headline.specs.AskedFoci.{IsAskedAt}
 use Rattle.headline.specs.Followed.{AreFollowed}
 use Rattle.headline.specs.Honest.{IsHonest, end_of}
 
@@ -70,14 +77,16 @@ IsProgramOf sees name image = (bytes : List ℕ) × sees name (Ok bytes) × IsIm
 abbrev pub IsConfigurationOf : FileReading → List ℕ → Conf → Type 0
 IsConfigurationOf sees name conf = (text : List ℕ) × sees name (Ok text) × IsConfOf text conf
 
--- The files of these names hold the program and the configuration; of that, or what is made of it, a check finds no fault. The quanta
--- are a whole run: each could be taken when it came, and none can follow. What is printed of them is honest.
+-- The files of these names hold the program and the configuration; of that, or what is made of it, a check finds no fault, and no wish
+-- at tick 0 is refused. The quanta are a whole run: each could be taken when it came, and none can follow. What is printed of them is
+-- honest.
 pub record IsRunOf (sees : FileReading) (program conf : List ℕ) (r : Run) : Type 0 where
   pub holds_program : IsProgramOf sees program r.inputs.image
   pub holds_conf : IsConfigurationOf sees conf r.spelled
   pub found : Found
   pub accepted : AreFound r.inputs.image r.inputs.settings.harts r.made found
   pub given : r.inputs ≡ inputs_with r.inputs.image found r.inputs.settings
+  pub opened : bad_pick r.inputs ≡ None
   pub whole : IsWhole r.inputs r.quanta
   pub honest : IsHonest r.inputs r.quanta r.parts
 
@@ -98,12 +107,11 @@ report_of r = report_text r.parts (skipped_of r.inputs.image)
 abbrev pub IsLogOf : List ℕ → Run → Type 0
 IsLogOf bytes r = meaning_of bytes ≡ Ok (r.inputs.settings, r.quanta)
 
--- Each of a number of views was given the same samples. Those of a pair are, in place of its bins, what its plan measures.
+-- Each of a number of views was given all samples of the session. Those of a pair are, in place of its bins, what its plan measures.
 pub record AreViews (views : ℕ) (r : Run) (text : List ℕ) : Type 0 where
-  pub feed : List LatestSample
-  pub is : text ≡ visi_text r.parts.shown (replicate views feed)
+  pub is : text ≡ visi_text r.parts.shown (replicate views (feed_of r.inputs r.quanta))
   pub samples : (n : ℕ) (part : ShownPart) → slice_get r.parts.shown n ≡ Some part →
-      IsPartOf r.inputs (end_of r.inputs r.quanta) (record part { bins = told_at n feed })
+      IsPartOf r.inputs (end_of r.inputs r.quanta) (record part { bins = told_at n (feed_of r.inputs r.quanta) })
 
 -- The file of a name holds directives, and what is made of the configuration is what they make. What is printed follows them.
 pub record IsDirectedBy (sees : FileReading) (name : List ℕ) (r : Run) : Type 0 where
@@ -114,20 +122,22 @@ pub record IsDirectedBy (sees : FileReading) (name : List ℕ) (r : Run) : Type 
   pub made : applied shipped_conf.items r.spelled.items directives ≡ Ok r.made.items
   pub followed : IfSome r.parts.search (AreFollowed r.spelled.items directives)
 
--- The bytes are the text of a report or of a profile, and this is compared of it.
+-- The bytes are read as a report or as a profile whose text they are, and this is compared of it.
 abbrev pub IsComparedText : List ℕ → ComparedFile → Type 0
 IsComparedText bytes c =
-    ((r : Report) × (report_text r.parts r.skipped ≡ bytes) × (c ≡ record { is_profile = false; parts = r.parts }))
-    ⊎ ((p : ReadProfile) × (profile_spelling p ≡ bytes) × (c ≡ record { is_profile = true; parts = profile_parts p }))
+    ((r : Report) × (report_in bytes ≡ Ok r) × (report_text r.parts r.skipped ≡ bytes) × (c ≡ record { is_profile = false; parts = r.parts }))
+    ⊎ ((p : ReadProfile) × (profile_in bytes ≡ Ok p) × (profile_spelling p ≡ bytes) × (c ≡ record { is_profile = true; parts = profile_parts p }))
 
 -- ---- the commands
 
 abbrev pub Tells : Option Request → FileReading → Texts → Type 0
 Tells None sees texts = ⊥
 Tells (Some (run q)) sees texts =
-    (r : Run) × IsAsked sees q.session (IsInOrder q.order) r × IsPlain r × (texts.out ≡ report_of r) × IsLogOf texts.log r
+    (r : Run) × IsAsked sees q.session (IsInOrder q.order) r × IsPlain r × (texts.out ≡ report_of r)
+    × (texts.log ≡ log_of r.inputs r.quanta) × IsLogOf texts.log r
 Tells (Some (live q)) sees texts =
-    (r : Run) × IsAsked sees q.session (IsByWorkers q.workers q.quantum) r × IsPlain r × (texts.out ≡ report_of r) × IsLogOf texts.log r
+    (r : Run) × IsAsked sees q.session (IsByWorkers q.workers q.quantum) r × IsPlain r × (texts.out ≡ report_of r)
+    × (texts.log ≡ log_of r.inputs r.quanta) × IsLogOf texts.log r
 Tells (Some (replay q)) sees texts =
     (r : Run) × IsRunOf sees q.program q.conf r × IsPlain r × ((log : List ℕ) × sees q.log (Ok log) × IsLogOf log r)
     × (texts ≡ output (report_of r))
@@ -140,11 +150,12 @@ Tells (Some (stress q)) sees texts =
     × (texts ≡ output (summary_text q.procs r.parts))
 -- the counts are those of positions of the program's own run
 Tells (Some (blocks q)) sees texts = (image : Image) × IsProgramOf sees q.program image × AreCounted q image (Ok texts)
--- The profile is of the program's own run: no number of a word is above its executions, and where no tick is untold each is these.
+-- The profile is of the program's own run: no number of a word is above its executions, and where no tick is untold each is these. Its
+-- lines add up to the ticks.
 Tells (Some (profile q)) sees texts =
     (image : Image) × IsProgramOf sees q.source.counted.program image
     × (r : Profile) × IsProfile image (starts_of image q.source.also) q.source.counted.budget (pace_of q.source.counted) r
-    × (texts ≡ profile_texts q image r)
+    × DoLinesAddUp image (procedures_of image) r × (texts ≡ profile_texts q image r)
 Tells (Some (annotate q)) sees texts =
     (bytes : List ℕ) × sees q.source.counted.program (Ok bytes) × (image : Image) × IsImageOf bytes image
     × (name : Option (List ℕ)) × (Ok name ≡ chosen q.procedure image)
@@ -161,22 +172,24 @@ Tells (Some (plan q)) sees texts =
 -- an ELF file that means the program of the text
 Tells (Some (asm name)) sees texts =
     (text : List ℕ) × sees name (Ok text) × (elf_of text ≡ Ok texts.out) × IsMeantAgain text texts.out × (texts.log ≡ [])
--- a log that means what the file's does
+-- the log that means what the file's does, as it is written now
 Tells (Some (relog name)) sees texts =
     (log : List ℕ) × sees name (Ok log)
-    × (means : Settings × List Quantum) × (meaning_of log ≡ Ok means) × (meaning_of texts.out ≡ Ok means) × (texts.log ≡ [])
+    × (means : Settings × List Quantum) × (meaning_of log ≡ Ok means) × (meaning_of texts.out ≡ Ok means)
+    × (texts ≡ output (spelled Two means.0 means.1))
 -- what the verdicts of the report advise
 Tells (Some (advise name)) sees texts =
     (report : List ℕ) × sees name (Ok report)
     × (verdicts : List Verdict) × (verdicts_of report ≡ Ok verdicts) × (texts ≡ output (advice verdicts))
--- The file is the text of a report, and that report is shown.
+-- The file is read as a report whose text it is, and that report is shown.
 Tells (Some (show q)) sees texts =
-    (bytes : List ℕ) × sees q.report (Ok bytes) × (r : Report) × (report_text r.parts r.skipped ≡ bytes) × (texts ≡ output (view_of q r))
+    (bytes : List ℕ) × sees q.report (Ok bytes) × (r : Report) × (report_in bytes ≡ Ok r) × (report_text r.parts r.skipped ≡ bytes)
+    × (texts ≡ output (view_of q r))
 -- The files are the texts of two reports or of two profiles, and what differs between these is told.
 Tells (Some (diff q)) sees texts =
     (old new : List ℕ) × sees q.old (Ok old) × sees q.new (Ok new)
     × (a b : ComparedFile) × IsComparedText old a × IsComparedText new b × (Ok texts ≡ diff_of a b)
--- The wishes are for the shipped metrics, below the focus.
+-- The shipped metrics of the given names are asked for at foci of the program.
 Tells (Some (ask q)) sees texts =
     (image : Image) × IsProgramOf sees q.counted.program image × (conf : Conf) × IsConfOf shipped_metrics conf
-    × (found : Found) × AreFound image q.counted.harts conf found × IsAsk q image found (Ok texts)
+    × (found : Found) × AreFound image q.counted.harts conf found × IsAskedAt q image found texts

@@ -1,4 +1,5 @@
 pub mod Answers
+pub mod AskedFoci
 pub mod Delivery
 pub mod Serving
 pub mod Honest
@@ -6,3 +7,4 @@ pub mod Followed
 pub mod Headline
 pub mod Program
 pub mod Readable
+pub mod WarmStarts

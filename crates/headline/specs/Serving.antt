@@ -11,7 +11,7 @@ use Rattle.headline.specs.Delivery.{IsTorn, Gained}
 use Rattle.commands.specs.Due.{AreOne, IsDue, is_live}
 use Rattle.commands.specs.FileReadings.{reads, CountedFor}
 use Rattle.commands.specs.declared.texts.Texts.{Texts}
-use Rattle.headline.specs.declared.top.Reply.{Reply}
+use Rattle.headline.specs.declared.replying.Reply.{Reply}
 
 -- An answer is due for words and what was seen of the files. What the files hold stays the same, and no count of faults rose but
 -- that of a file which the answer names as unread.
@@ -50,33 +50,49 @@ AreTorn hasK faultsK oldK newK hasL faultsL oldL newL texts =
 abbrev pub IsUnchangedCount : ℕ → ℕ → Type 0
 IsUnchangedCount before now = (before < 2 ^ 64 - 1) × (now ≡ before)
 
--- What a call does that serves words, by its status.
-pub record IsServedCall {F K L : Type 0} (holds : F → List ℕ → Holding) (faults : F → List ℕ → ℕ) (old new : F) (words : List (List ℕ))
-    (hasK : K → Option (List ℕ))
-    (faultsK : K → ℕ) (oldK newK : K) (hasL : L → Option (List ℕ)) (faultsL : L → ℕ) (oldL newL : L) (status : ℕ) : Type 0 where
-  -- All but 7 and 8: the answer that is due was given, and both sinks gained its bytes.
+-- What a call does that serves words, by its status. What its sinks come to is a parameter: that an answer was given to them, that one of
+-- them failed on the way, that none was written to, that none lost anything, and that one failed.
+pub record IsCall {F : Type 0} (holds : F → List ℕ → Holding) (faults : F → List ℕ → ℕ) (old new : F) (words : List (List ℕ))
+    (Gave Tore : Result Texts Fault → Type 0) (Untouched Spared Failed : Type 0) (status : ℕ) : Type 0 where
+  -- All but 7 and 8: the answer that is due was given.
   pub answered : (status ≡ 7 → ⊥) → (status ≡ 8 → ⊥)
-      → (answer : Result Texts Fault) × IsOwed holds faults old new words answer
-      × (status ≡ status_of answer) × AreGained hasK faultsK oldK newK hasL faultsL oldL newL (texts_of answer)
+      → (answer : Result Texts Fault) × IsOwed holds faults old new words answer × (status ≡ status_of answer) × Gave answer
   -- 7: a sink lacks a part of what was due, and its count of faults rose.
-  pub torn : status ≡ 7 → (answer : Result Texts Fault)
-      × IsOwed holds faults old new words answer × AreTorn hasK faultsK oldK newK hasL faultsL oldL newL (texts_of answer)
+  pub torn : status ≡ 7 → (answer : Result Texts Fault) × IsOwed holds faults old new words answer × Tore answer
   -- 8: nothing was written, and nothing was read beyond what is due.
-  pub memory : status ≡ 8 → (newK ≡ oldK) × (newL ≡ oldL) × IsUntold holds faults old new words
+  pub memory : status ≡ 8 → Untouched × IsUntold holds faults old new words
   -- Complete: where texts are due and no sink failed, they were given, or memory ran out.
   pub complete : AreFilesKnown holds faults old → (due : Texts) → IsOwed holds faults old new words (Ok due)
-      → IsUnchangedCount (faultsK oldK) (faultsK newK) → IsUnchangedCount (faultsL oldL) (faultsL newL) → (status ≡ 0) ⊎ (status ≡ 8)
+      → Spared → (status ≡ 0) ⊎ (status ≡ 8)
   -- The status tells of a file that could not be read and of a sink that failed.
   pub unread : (name : List ℕ) → (faults new name ≡ faults old name → ⊥) → (status ≡ 3) ⊎ ((status ≡ 7) ⊎ (status ≡ 8))
-  pub unwritten : (faultsK newK ≡ faultsK oldK → ⊥) ⊎ (faultsL newL ≡ faultsL oldL → ⊥) → status ≡ 7
+  pub unwritten : Failed → status ≡ 7
+
+-- A call over a sink for the output and one for the log: each answer leaves bytes for both.
+abbrev pub IsServedCall : {F K L : Type 0} → (F → List ℕ → Holding) → (F → List ℕ → ℕ) → F → F → List (List ℕ)
+    → (K → Option (List ℕ)) → (K → ℕ) → K → K → (L → Option (List ℕ)) → (L → ℕ) → L → L → ℕ → Type 0
+IsServedCall holds faults old new words hasK faultsK oldK newK hasL faultsL oldL newL status =
+    IsCall holds faults old new words
+    (λ answer. AreGained hasK faultsK oldK newK hasL faultsL oldL newL (texts_of answer))
+    (λ answer. AreTorn hasK faultsK oldK newK hasL faultsL oldL newL (texts_of answer))
+    ((newK ≡ oldK) × (newL ≡ oldL))
+    (IsUnchangedCount (faultsK oldK) (faultsK newK) × IsUnchangedCount (faultsL oldL) (faultsL newL))
+    ((faultsK newK ≡ faultsK oldK → ⊥) ⊎ (faultsL newL ≡ faultsL oldL → ⊥))
+    status
+
+-- The status and the bytes of an answer.
+pub record IsReply (answer : Result Texts Fault) (reply : Reply) : Type 0 where
+  pub status : reply.status ≡ status_of answer
+  pub texts : reply.texts ≡ texts_of answer
+
+-- The reply is that of the answer which is owed; or memory ran out, and nothing was read beyond what is due.
+abbrev pub IsReplied : {F E : Type 0} → (F → List ℕ → Holding) → (F → List ℕ → ℕ) → F → F → List (List ℕ) → Result Reply E → Type 0
+IsReplied holds faults old new words (Ok reply) =
+    (answer : Result Texts Fault) × IsOwed holds faults old new words answer × IsReply answer reply
+IsReplied holds faults old new words (Err e) = IsUntold holds faults old new words
 
 -- for proofs alone: what an answer comes to, where memory didn't run out
 abbrev pub told_of : Result Texts Refusal → Option (Result Texts Fault)
 told_of (Ok texts) = Some (Ok texts)
 told_of (Err (refusal.Fault fault)) = Some (Err fault)
 told_of (Err refusal.NoMemory) = None
-
--- for proofs alone: the status and the bytes of an answer
-pub record IsReply (answer : Result Texts Fault) (reply : Reply) : Type 0 where
-  pub status : reply.status ≡ status_of answer
-  pub texts : reply.texts ≡ texts_of answer

@@ -7,7 +7,7 @@ ghost use Rattle.commands.specs.Due.{IsDue, IsDueFor};
 ghost use Rattle.commands.specs.FileReadings.{reads, Looks};
 ghost use Rattle.refusals.specs.Refusals.{Comes};
 
-use command_words::{Request, WordFault, read_request};
+use command_words::{Request, WordFault, begin_threaded, read_request};
 use commands::{
     Texts, advise, annotate, ask, asm, blocks, diff, direct, live, plan, points, profile, relog,
     replay, run, show, stress, visi,
@@ -70,7 +70,7 @@ pub(crate) fn answer<F: Files, P: Progress>(
 }
 
 /// Returns what is due for words, of which some begin threads.
-pub(crate) fn answer_threaded<F: Files, R: Threads + Wait + Sync, G: Gate + Progress + Sync>(
+fn answer_threaded<F: Files, R: Threads + Wait + Sync, G: Gate + Progress + Sync>(
     rt: &R,
     alloc: Global,
     words: &[String],
@@ -86,5 +86,23 @@ pub(crate) fn answer_threaded<F: Files, R: Threads + Wait + Sync, G: Gate + Prog
         Ok(request) => answer_request(alloc, &request, files, gate),
         Err(WordFault::Usage) => Err(Refusal::Fault(Fault::Usage)),
         Err(WordFault::NoMemory) => Err(Refusal::NoMemory),
+    }
+}
+
+/// Returns what is due for words, whether they begin threads or not.
+pub(crate) fn answer_words<F: Files, R: Threads + Wait + Sync, G: Gate + Progress + Sync>(
+    rt: &R,
+    alloc: Global,
+    words: &[String],
+    files: &mut F,
+    gate: &G,
+) -> Result<Texts, Refusal>
+    ensures due { Comes result (IsDue (map string_bytes words.now) (reads (F.holds files.old) (F.faults files.old) (F.faults files.new))) }
+    ensures looks { Looks F.holds F.faults files.old files.new result }
+{
+    if begin_threaded(words) {
+        answer_threaded(rt, alloc, words, files, gate)
+    } else {
+        answer(alloc, words, files, gate)
     }
 }

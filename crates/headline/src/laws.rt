@@ -1,8 +1,9 @@
 //! What holds of what is owed.
 
-ghost use Rattle.headline.specs.Program.{OwedIsHonest};
+ghost use Rattle.headline.specs.Program.{OwedIsHonest, ToldOnce};
 ghost use Rattle.headline.specs.Readable.{SessionIsReadable};
 ghost use Rattle.headline.specs.Serving.{OneOwed};
+ghost use Rattle.headline.specs.WarmStarts.{WarmIsWhole};
 
 use commands::found_can_run;
 use directives::{
@@ -13,6 +14,7 @@ use mdl_check::one_answer;
 use mdl_parse::one_meaning;
 use outside::Files;
 use profile_reader::profile_is_spelled;
+use profile_text::lines_add_up;
 use quanta_log::spelled_is_read;
 use report_reader::report_is_spelled;
 use resource_tree::one_reading;
@@ -23,6 +25,18 @@ use whole_run::{one_seeded, whole_quanta_fit};
 /// For words, and files whose content is told, one answer is owed: the texts that were asked for, or one fault.
 pub fn one_owed<F: Files>()
     ensures { OneOwed F.holds F.faults }
+{
+    one_meaning();
+    directives_or_fault();
+    one_answer();
+    one_reading();
+    one_seeded();
+}
+
+/// The headline lets a command tell one thing alone of files whose content is told. So where texts are owed, it is met by these alone:
+/// by no other number, verdict or line.
+pub fn told_once()
+    ensures { ToldOnce }
 {
     one_meaning();
     directives_or_fault();
@@ -54,6 +68,7 @@ pub fn owed_is_honest<F: Files>()
     whole_quanta_fit();
     report_is_spelled();
     profile_is_spelled();
+    lines_add_up();
 }
 
 /// What a session gives at its end can be read: each text in it is a name, a focus or in one line, and what was judged true has ticks.
@@ -62,3 +77,9 @@ pub fn session_is_readable()
 {
     verdicts_told();
 }
+
+/// An instrument that is armed in mid-run begins with the values that the frames of each hart give. Where these are the values that its
+/// variables would have if it had been armed at tick 0, it measures what it would have measured then.
+pub fn warm_is_whole()
+    ensures { WarmIsWhole }
+{}

@@ -1,52 +1,23 @@
 //! The top call.
 
-ghost use Rattle.std.specs.Prelude.{◌≡◌, ◌≢◌, false, IfOk, Result, Err, Some, map, string_bytes};
+ghost use Rattle.std.specs.Prelude.{◌≡◌, ◌≢◌, false, Result, Some, map, string_bytes};
 ghost use Rattle.command_words.specs.Requests.{begins_threaded};
 ghost use Rattle.headline.specs.Answers.{status_of, texts_of};
-ghost use Rattle.headline.specs.Serving.{IsReply, IsServedCall, AreGained, AreTorn, told_of};
+ghost use Rattle.headline.specs.Serving.{IsServedCall, AreGained, AreTorn, told_of};
 ghost use Rattle.commands.specs.declared.texts.Texts.{Texts as texts};
 ghost use Rattle.refusals.specs.declared.fault.Fault.{Fault as fault};
 
-use crate::answering::{answer, answer_threaded};
+use crate::answering::{answer, answer_words};
 use crate::delivery::deliver;
 use crate::laws::one_owed;
-use command_words::begin_threaded;
+use crate::replying::reply_to;
 use commands::Texts;
 use outside::{Files, Gate, Sink};
-use pn_types::NoMemory;
-use refusals::{Fault, Refusal, faults_text};
+use refusals::Refusal;
 use std::alloc::Global;
 use std::sync::Wait;
 use std::thread::Threads;
 use whole_run::Progress;
-
-/// A status with the bytes that go with it.
-#[derive(Drop)]
-pub struct Reply {
-    pub status: u8,
-    pub texts: Texts,
-}
-
-/// Returns the reply of a fault.
-fn refuse(alloc: Global, fault: &Fault) -> Result<Reply, NoMemory>
-    ensures { IfOk result (IsReply (Err fault.now)) }
-{
-    Ok(Reply {
-        status: fault.status(),
-        texts: Texts::output(alloc, faults_text(alloc, fault)?),
-    })
-}
-
-/// Returns the reply for an answer.
-fn reply_to(alloc: Global, answered: Result<Texts, Refusal>) -> Result<Reply, NoMemory>
-    ensures { IfOk result (λ reply. (answer : Result texts fault) × (told_of answered ≡ Some answer) × IsReply answer reply) }
-{
-    match answered {
-        Ok(texts) => Ok(Reply { status: 0, texts }),
-        Err(Refusal::Fault(fault)) => refuse(alloc, &fault),
-        Err(Refusal::NoMemory) => Err(NoMemory {}),
-    }
-}
 
 /// Writes an answer to the sinks, and returns the status.
 fn give<K: Sink, L: Sink>(
@@ -128,10 +99,6 @@ pub fn paradyn<R: Threads + Wait + Sync, F: Files, K: Sink, L: Sink, G: Gate + P
         (map string_bytes words.now) K.has K.faults out.old out.new L.has L.faults log.old log.new result }
 {
     one_owed::<F>();
-    if begin_threaded(words) {
-        let answered = answer_threaded(rt, alloc, words, files, gate);
-        give(alloc, answered, out, log)
-    } else {
-        serve(alloc, words, files, out, log, gate)
-    }
+    let answered = answer_words(rt, alloc, words, files, gate);
+    give(alloc, answered, out, log)
 }

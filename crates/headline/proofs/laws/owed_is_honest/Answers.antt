@@ -28,5 +28,6 @@ returns g c old new words texts owed =
       fit = c.whole_quanta_fit.ensures;
       spelled = c.report_is_spelled.ensures;
       profiles = c.profile_is_spelled.ensures;
+      lines = c.lines_add_up.ensures;
     })
     (reads (g.F.Files.holds old) (g.F.Files.faults old) (g.F.Files.faults new)) (λ name bytes h. h.1) texts (request_of words) (ranged words) owed.due
