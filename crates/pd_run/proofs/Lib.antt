@@ -1,2 +1,6 @@
-mod Served
 mod Beginnings
+mod Differing
+mod Fronts
+mod Starting
+mod ShownCalls
+mod ToldKinds

@@ -1,3 +1,2 @@
-pub mod Helds
-pub mod Screens
 pub mod Guards
+pub mod Screens

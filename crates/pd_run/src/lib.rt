@@ -2,11 +2,9 @@
 #![tactic(auto)]
 
 mod guarding;
-mod held;
 mod kinds;
 mod serving;
 
-pub use guarding::{Kind, may_write};
-pub use held::Held;
-pub use kinds::{kind_of, second_kind_of};
-pub use serving::{Screen, Shown, serve_words};
+pub use guarding::may_write;
+pub use kinds::{Kind, kinds_are_told, log_kind, written_kind};
+pub use serving::{Screen, Shown, serve_words, status_meaning};

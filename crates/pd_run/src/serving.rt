@@ -1,12 +1,16 @@
 //! Serving words for a person.
 
-ghost use Rattle.std.specs.Prelude.{◌≡◌, ◌≢◌, OnOk, map, string_bytes};
-ghost use Rattle.std.specs.Io.KnownBytes.{append_known};
-ghost use Rattle.pd_run.specs.Screens.{IsOnScreen, IsExplained, seen_of};
+ghost use Rattle.std.specs.Prelude.{◌≡◌, ◌≢◌, OnErr, OnOk, Result, map, string_bytes};
+ghost use Rattle.commands.specs.declared.texts.Texts.{Texts as texts};
+ghost use Rattle.headline.specs.Answers.{status_of};
+ghost use Rattle.headline.specs.Delivery.{Gained, IsTorn};
+ghost use Rattle.headline.specs.Serving.{AreGained, AreTorn, IsReply};
+ghost use Rattle.refusals.specs.declared.fault.Fault.{Fault as fault};
+ghost use Rattle.pd_run.specs.Screens.{IsAnswerCut, IsAnswerShown, IsShownCall, sinks_of};
 
-use crate::held::Held;
-use headline::{Progress, owed_is_honest, paradyn};
-use outside::{Files, Gate, Sink, write_all};
+use commands::Texts;
+use headline::{Progress, Reply, deliver, one_owed, owed_is_honest, reply_for};
+use outside::{Failed, Files, Gate, Sink, write_all};
 use std::alloc::Global;
 use std::sync::Wait;
 use std::thread::Threads;
@@ -23,46 +27,58 @@ pub struct Screen<K, E> {
 /// How a call ended.
 #[derive(Drop)]
 pub struct Shown {
-    /// Its status, or 7 where a sink failed.
+    /// Its status.
     pub status: u8,
-    /// What was shown: at status 0 the text that was asked for, and else a fault's line; nothing at 7 and 8.
-    pub text: Vec<u8>,
+    /// What was shown: at status 0 the texts that were asked for, and else a fault's line; nothing at 8.
+    pub texts: Texts,
 }
 
-/// Returns what a status means that has no line of its own.
-fn meaning_of(status: u8) -> &'static [u8] {
+/// Returns what a status means that has no line of its own, in a line.
+pub fn status_meaning(status: u8) -> &'static str {
     match status {
-        7 => b"pd: could not write all: the disk is full, or there is no such folder\n",
-        8 => b"pd: out of memory\n",
-        _ => b"",
+        7 => "pd: could not write all: the disk is full, or there is no such folder\n",
+        8 => "pd: out of memory: nothing was written\n",
+        _ => "",
     }
 }
 
-/// Shows what a call left in a sink, by its status: texts on standard output, a fault's line on standard error. Returns the status, or 7
-/// where a sink failed.
-fn show<K: Sink, E: Sink>(status: u8, text: &[u8], screen: &mut Screen<K, E>) -> u8
-    ensures texts { result ≡ 0 → (status ≡ 0) × (K.has screen.new.out ≡ append_known (K.has screen.old.out) text.now)
-        × (E.has screen.new.err ≡ E.has screen.old.err) }
-    ensures fault { result ≢ 0 → result ≢ 7 → (result ≡ status) × (K.has screen.new.out ≡ K.has screen.old.out) }
-    ensures line { result ≢ 0 → result ≢ 7 → result ≢ 8 → E.has screen.new.err ≡ append_known (E.has screen.old.err) text.now }
+/// Writes the texts of a reply to standard output and the log, or a fault's line to standard error.
+fn write<K: Sink, E: Sink, L: Sink>(
+    reply: &Reply,
+    screen: &mut Screen<K, E>,
+    log: &mut L,
+) -> Result<(), Failed>
+    ensures texts { reply.now.status ≡ 0 → (screen.new.err ≡ screen.old.err)
+        × OnOk result (AreGained K.has K.faults screen.old.out screen.new.out L.has L.faults log.old log.new reply.now.texts)
+        × OnErr result (AreTorn K.has K.faults screen.old.out screen.new.out L.has L.faults log.old log.new reply.now.texts) }
+    ensures line { reply.now.status ≢ 0 → (screen.new.out ≡ screen.old.out) × (log.new ≡ log.old)
+        × OnOk result (Gained E.has E.faults screen.old.err screen.new.err reply.now.texts.out)
+        × OnErr result (IsTorn E.has E.faults screen.old.err screen.new.err reply.now.texts.out) }
 {
-    let shown = match status {
-        0 => write_all(&mut screen.out, text),
-        7 | 8 => {
-            // The status tells, also where this can't be written.
-            let _ = write_all(&mut screen.err, meaning_of(status));
-            Ok(())
-        }
-        _ => write_all(&mut screen.err, text),
-    };
-    match shown {
-        Ok(()) => status,
+    if reply.status == 0 {
+        deliver(&reply.texts, &mut screen.out, log)
+    } else {
+        write_all(&mut screen.err, reply.texts.out.as_slice())
+    }
+}
+
+/// Shows a reply. Returns its status, or 7 where a sink failed.
+fn show<K: Sink, E: Sink, L: Sink>(reply: &Reply, screen: &mut Screen<K, E>, log: &mut L) -> u8
+    ensures shown { (answer : Result texts fault) → IsReply answer reply.now → result ≢ 7 → (result ≡ status_of answer)
+        × IsAnswerShown (sinks_of K.has K.faults E.has E.faults L.has L.faults screen.old.out screen.old.err log.old)
+        (sinks_of K.has K.faults E.has E.faults L.has L.faults screen.new.out screen.new.err log.new) answer }
+    ensures cut { (answer : Result texts fault) → IsReply answer reply.now → result ≡ 7
+        → IsAnswerCut (sinks_of K.has K.faults E.has E.faults L.has L.faults screen.old.out screen.old.err log.old)
+        (sinks_of K.has K.faults E.has E.faults L.has L.faults screen.new.out screen.new.err log.new) answer }
+{
+    match write(reply, screen, log) {
+        Ok(()) => reply.status,
         Err(_) => 7,
     }
 }
 
-/// Serves words as [`headline::paradyn`] does, but what it gives for standard output is shown to a person: with status 0 on standard
-/// output, and a fault's line on standard error.
+/// Serves words as [`headline::paradyn`] does, but shows what is due to a person: texts go to standard output and the log, and a fault's
+/// line to standard error. Each quantum is told of to `gate`, as there.
 pub fn serve_words<
     R: Threads + Wait + Sync,
     F: Files,
@@ -79,20 +95,23 @@ pub fn serve_words<
     log: &mut L,
     gate: &G,
 ) -> Shown
-    ensures shown { result.status ≡ 0 → IsOnScreen F.holds F.faults files.old files.new (map string_bytes words.now)
-        (seen_of K.has E.has screen.old.out screen.old.err) (seen_of K.has E.has screen.new.out screen.new.err)
-        L.has L.faults log.old log.new }
-    ensures explained { result.status ≢ 0 → result.status ≢ 7 → result.status ≢ 8
-        → IsExplained F.holds F.faults files.old files.new (map string_bytes words.now)
-        (seen_of K.has E.has screen.old.out screen.old.err) (seen_of K.has E.has screen.new.out screen.new.err) result.status }
-    ensures memory { result.status ≡ 8 → (K.has screen.new.out ≡ K.has screen.old.out) × (log.new ≡ log.old) }
+    ensures { IsShownCall F.holds F.faults files.old files.new (map string_bytes words.now)
+        (sinks_of K.has K.faults E.has E.faults L.has L.faults screen.old.out screen.old.err log.old)
+        (sinks_of K.has K.faults E.has E.faults L.has L.faults screen.new.out screen.new.err log.new) result.texts result.status }
 {
     owed_is_honest::<F>();
-    let mut held = Held::new(alloc);
-    let status = paradyn(rt, alloc, words, files, &mut held, log, gate);
-    let shown = show(status, held.bytes(), screen);
-    Shown {
-        status: shown,
-        text: held.into_bytes(),
+    one_owed::<F>();
+    match reply_for(rt, alloc, words, files, gate) {
+        Ok(reply) => {
+            let status = show(&reply, screen, log);
+            Shown {
+                status,
+                texts: reply.texts,
+            }
+        }
+        Err(_) => Shown {
+            status: 8,
+            texts: Texts::output(alloc, Vec::new(alloc)),
+        },
     }
 }
