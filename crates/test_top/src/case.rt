@@ -2,6 +2,7 @@
 
 use crate::along::report_along;
 use crate::given::Given;
+use crate::guards::answer_guard;
 use crate::line::Call;
 use crate::meeting::Meeting;
 use crate::person::answer_person;
@@ -120,6 +121,7 @@ impl Case {
             Call::Deliver(texts) => self.deliver(rt, alloc, texts),
             Call::Row(options) => self.follow(rt, threads, alloc, options),
             Call::Person(line) => self.show(rt, threads, alloc, line),
+            Call::Guard(line) => self.guard(rt, threads, alloc, line),
         }
     }
 
@@ -182,6 +184,20 @@ impl Case {
     ) -> io::Result<()> {
         match words(alloc, Some(line))? {
             Words::Read(words) => answer_person(rt, threads, alloc, self, &words),
+            Words::NotText | Words::NoMemory => Ok(()),
+        }
+    }
+
+    /// Prints which files words of `pd` may write.
+    fn guard<R: Threads + Wait + Sync>(
+        &self,
+        rt: HostRuntime,
+        threads: &R,
+        alloc: Global,
+        line: &str,
+    ) -> io::Result<()> {
+        match words(alloc, Some(line))? {
+            Words::Read(words) => answer_guard(rt, threads, alloc, self, &words),
             Words::NotText | Words::NoMemory => Ok(()),
         }
     }

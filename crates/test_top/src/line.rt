@@ -32,6 +32,8 @@ pub enum Call<'a> {
     Row(&'a str),
     /// Words of `pd`.
     Person(&'a str),
+    /// Words of `pd`, of which it is asked which files they may write.
+    Guard(&'a str),
 }
 
 impl<'a> Line<'a> {
@@ -55,6 +57,7 @@ impl<'a> Line<'a> {
             "deliver" => Line::Call(Call::Deliver(rest)),
             "row" => Line::Call(Call::Row(rest)),
             "pd" => Line::Call(Call::Person(rest)),
+            "guard" => Line::Call(Call::Guard(rest)),
             "" | "#" => Line::Nothing,
             _ => Line::Given(word, rest),
         }

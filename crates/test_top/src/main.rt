@@ -21,6 +21,7 @@
 //!   it is run along the log that `run` left. The session's report is printed, and whether the commands' are the same.
 //! - `pd WORDS`: what a person is shown who types these words of `pd`: the status, how much standard output gained and its first line, and
 //!   what standard error gained.
+//! - `guard WORDS`: which files these words of `pd` write, of which kinds, and whether each may be written, and written once more after that.
 //!
 //! Other lines say nothing.
 #![tactic(auto)]
@@ -28,6 +29,7 @@
 mod along;
 mod case;
 mod given;
+mod guards;
 mod line;
 mod meeting;
 mod person;

@@ -69,7 +69,7 @@ fn serve<R: Threads + Wait + Sync>(
         &mut log,
         &OpenGate,
     );
-    let text = shown.text.as_slice();
+    let text = shown.texts.out.as_slice();
     if shown.status == 0 {
         let out = String::from_utf8_lossy(alloc, text)?;
         return text_sight(alloc, &out, notes(alloc, text)?);
