@@ -89,10 +89,7 @@ def count(image, procs, harts, budget, seed, quantum):
     for i in placed:
         assert i is None or m.arm(i)
     for h in harts_in_turn(m, seed):
-        for _ in range(quantum):
-            if not m.runnable(h):
-                break
-            m.turn(h)
+        m.turns(h, quantum)
     m.settle()
     counts = [None if i is None else sum(m.sample(i)) % 2 ** 64 for i in placed]
     return m, [(h, n, c) for (h, n), c in zip(blocks, counts)]

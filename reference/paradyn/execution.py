@@ -339,12 +339,13 @@ def _compile(word):
     return {"U": _upper, "B": _branch, "R": _with_register, "I": _load, "S": _store, "A": _atomic}[i.fmt](i)
 
 
-_CODE = {}
+# the functions of words, which are kept
+KEPT = {}
 
 
 def code_of(word):
     """The function of a word; it is kept."""
-    f = _CODE.get(word)
+    f = KEPT.get(word)
     if f is None:
-        f = _CODE[word] = _compile(word)
+        f = KEPT[word] = _compile(word)
     return f

@@ -2,7 +2,7 @@
 
 A turn executes one word. A word is marked: OWN is the program's and a tick, ENTER leads from the program to a
 trampoline, TOOL is the tool's, LEAVE leads back. Patches are made by events, of which each asserts what it needs. """
-from .execution import FETCH_OUTSIDE, code_of
+from .execution import FETCH_OUTSIDE, KEPT, code_of
 from .memory import NO_RESERVATIONS, Memory, Output, Reservations
 from .plain_machine import start_registers
 from .relocation import home_of, imm_j, move_word
@@ -11,6 +11,9 @@ from .trampolines import base_block
 from .warm_start import opening
 
 TOOL_LEN = 393216
+# the operations that jump, by which a word of the program that was moved leads back out of a trampoline
+JUMPS = (0x6F, 0x67)
+LONGEST_RUN = 64
 BANK_SLOTS = 4096
 
 
@@ -81,6 +84,7 @@ class Machine:
         self.tool_at = tool_start(image)
         self.tool_end = self.tool_at + TOOL_LEN
         self.tool = {}
+        self.runs = {}             # address of a tool word -> the functions of the words that follow
         self.at_point = {}         # point -> its blocks that aren't freed
         self.owner = {}            # address of a tool word -> its record
         self.links = 0
@@ -114,36 +118,72 @@ class Machine:
     def turn(self, h):
         """A turn of hart h; gives whether it was a tick."""
         assert self.runnable(h)
-        pc = self.pc[h]
-        got = self.fetch(pc, self.inside[h])
-        if got is None:
-            assert not self.inside[h], "a hart left the tool text"
-            self.stopped[h] = FETCH_OUTSIDE
-            return self._ticked(h)
-        word, mark = got
-        r = self._meaning(word, mark, pc, h)
-        if r.__class__ is tuple:
-            assert mark == OWN, (mark, hex(word), r)
-            self.stopped[h] = r
-            if self.inside[h]:
-                self.pc[h] = self.home(pc)
-            self.inside[h] = False
-        else:
-            self.pc[h] = r & MASK64
-            if mark == ENTER:
-                self.inside[h] = True
-            elif mark == LEAVE or mark == OWN and (word & 0x7F) in (0x6F, 0x67):
-                self.inside[h] = False
-        return self._ticked(h) if mark == OWN else False
+        return self.turns(h, 1)[0] == 1
 
-    def _meaning(self, word, mark, pc, h):
-        """The next pc, or a cause."""
-        if mark == TOOL:
-            return code_of(word)(pc, h, self.regs[h], self.banks[h], NO_RESERVATIONS, None)
-        if mark != OWN:
-            return code_of(word)(pc, h, self.regs[h], None, None, None)
-        assert not self.inside[h] or self.tick[h] < self.budget
-        return code_of(word)(pc, h, self.regs[h], self.mem, self.reservations, self.out)
+    def turns(self, h, most):
+        """Turns of hart h, at most so many, while it is runnable; gives how many were ticks, and how many were not."""
+        own = other = 0
+        pcs, ticks, regs, bank, budget, on_tick = self.pc, self.tick, self.regs[h], self.banks[h], self.budget, self.on_tick
+        text, text_at, text_end, tool, runs = self.text, self.text_at, self.text_end, self.tool, self.runs
+        mem, reservations, out, pc, is_inside = self.mem, self.reservations, self.out, self.pc[h], self.inside[h]
+        while own + other < most and self.stopped[h] is None:
+            if is_inside:
+                run = runs.get(pc)
+                if run is None:
+                    run = self._run_from(pc)
+                for f in run[:most - own - other]:
+                    pcs[h] = pc = f(pc, h, regs, bank, NO_RESERVATIONS, None)
+                    other += 1
+                if run:
+                    continue
+                word, mark = tool[pc]
+            elif ticks[h] >= budget:
+                break
+            elif text_at <= pc < text_end:
+                word, mark = text[(pc - text_at) >> 2]
+            else:
+                self.stopped[h] = FETCH_OUTSIDE
+                own += self._ticked(h)
+                break
+            f = KEPT.get(word) or code_of(word)
+            if mark is OWN:
+                r = f(pc, h, regs, mem, reservations, out)
+                if r.__class__ is tuple:
+                    self._stop(h, r)
+                else:
+                    pcs[h] = pc = r & MASK64
+                    if is_inside and (word & 0x7F) in JUMPS:
+                        is_inside = self.inside[h] = False
+                own += 1
+                ticks[h] += 1
+                if on_tick:
+                    on_tick(h)
+            else:
+                pcs[h] = pc = f(pc, h, regs, None, None, None) & MASK64
+                is_inside = self.inside[h] = mark is ENTER
+                other += 1
+        return own, other
+
+    def _run_from(self, pc):
+        """The functions of the tool's words from an address on, up to one that doesn't lead to one word alone."""
+        run, at = [], pc
+        while len(run) < LONGEST_RUN:
+            word, mark = self.tool.get(at, (0, TOOL))
+            if mark is not TOOL:
+                break
+            run.append(code_of(word))
+            if (word & 0x7F) in (0x63, 0x67):
+                break
+            at = jal_target(word, at) if (word & 0x7F) == 0x6F else at + 4
+        self.runs[pc] = run
+        return run
+
+    def _stop(self, h, cause):
+        """Hart h stops at a word of its own."""
+        self.stopped[h] = cause
+        if self.inside[h]:
+            self.pc[h] = self.home(self.pc[h])
+        self.inside[h] = False
 
     def _ticked(self, h):
         self.tick[h] += 1
@@ -153,6 +193,7 @@ class Machine:
 
     def _set_tool(self, at, word):
         self.tool[at] = word
+        self.runs.clear()
 
     def _base(self, point):
         found = [r for r in self.at_point.get(point, ()) if r.block.base and r.state != "retired"]

@@ -222,14 +222,8 @@ class Session:
 
     def _turns(self, hart, turns):
         """How many of the turns were ticks."""
-        owns = 0
-        for _ in range(turns):
-            if not self.runnable(hart):
-                break
-            if self.machine.turn(hart):
-                owns += 1
-            else:
-                self.extra += 1
+        owns, extra = self.machine.turns(hart, turns)
+        self.extra += extra
         return owns
 
     def _sample_all(self):

@@ -198,7 +198,7 @@ def person(case, rest):
     raise NotImplementedError
 
 
-CALLS = {b"pd": person, b"words": serve, b"begin": begin, b"keep": keep, b"meet": meet, b"count": count, b"compare": compare, b"not-text": not_text,
+CALLS = {b"pd": person, b"guard": person, b"words": serve, b"begin": begin, b"keep": keep, b"meet": meet, b"count": count, b"compare": compare, b"not-text": not_text,
          b"deliver": deliver_row, b"row": row}
 
 
@@ -226,7 +226,7 @@ def answers(stdin, standing):
     """Pairs of a call's line and what is printed behind it; of rows made by hand, what stands there."""
     lines, at = [line for line, _, _ in calls(stdin)], 0
     for number, (line, call, case) in enumerate(calls(stdin)):
-        if line.startswith(b"pd "):
+        if line.startswith((b"pd ", b"guard ")):
             text, at = standing_row(standing, at, line, (lines[number + 1:number + 2] or [None])[0])
             yield line, text
         else:

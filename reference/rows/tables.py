@@ -2,7 +2,7 @@
 import re
 
 from paradyn import commands
-from . import calls, language, machine, patched, records
+from . import calls, language, machine, patched, pd_words, records
 
 
 def text(lines):
@@ -22,16 +22,22 @@ def table_rows(folder):
 
 
 def standing_of_pd(folder):
-    """What stands for each row of `pd`, also on a screen, which is made by hand."""
+    """What stands for each row of `pd`, also on a screen: what the reference doesn't print is made by hand."""
     _, *parts = re.split(r"^(\$ (?:pd|screen) .*)\n", (folder / "stdout").read_text(), flags=re.M)
     return {row.removeprefix("$ "): [row, *text.splitlines()] for row, text in zip(parts[::2], parts[1::2])}
+
+
+def person(name, row, standing):
+    """What is printed of a row of `pd` or `screen`."""
+    text = pd_words.answer(row.split(" ") if row else [], name == "screen")
+    return standing.get(f"{name} {row}", []) if text is None else [f"$ {name} {row}", *text.splitlines()]
 
 
 def test_language(folder):
     source, of_pd = (folder / "src/searches/rows.rt").read_text(), standing_of_pd(folder)
     tables = {"language": language.answer, "command": records.command, "record": records.record,
-              "search": lambda row: records.search(row, source), "pd": lambda row: of_pd.get("pd " + row, []),
-              "screen": lambda row: of_pd.get("screen " + row, [])}
+              "search": lambda row: records.search(row, source), "pd": lambda row: person("pd", row, of_pd),
+              "screen": lambda row: person("screen", row, of_pd)}
     for line, table, row in table_rows(folder):
         yield line, text(tables[table](row) if table in tables else ["no table"])
 

@@ -136,18 +136,21 @@ class Watch:
         self.inner = self.m.on_tick
         self.m.on_tick, self.m.watch = self.tick, self.event
         if close:
-            self.turn, self.m.turn = self.m.turn, self.watched_turn
+            self.turns, self.m.turns = self.m.turns, self.watched_turns
 
     def tick(self, h):
         need(self.plain.runnable(h), "a tick of a hart that is done", h)
         self.plain.step(h)
         self.inner(h)
 
-    def watched_turn(self, h):
-        was_tick = self.turn(h)
-        found = hart_difference(self.m, self.plain, h)
-        need(found is None, "behind a turn", found)
-        return was_tick
+    def watched_turns(self, h, most):
+        own = other = 0
+        while own + other < most and self.m.runnable(h):
+            ticks, others = self.turns(h, 1)
+            own, other = own + ticks, other + others
+            found = hart_difference(self.m, self.plain, h)
+            need(found is None, "behind a turn", found)
+        return own, other
 
     def event(self, what):
         found = difference(self.m, self.plain)

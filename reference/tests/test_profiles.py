@@ -8,11 +8,11 @@ from paradyn.commands import Program, Refusal, load_program
 from paradyn.plain_machine import PlainMachine
 
 TOP = pathlib.Path(__file__).resolve().parents[2]
-FOLDERS = [TOP / "examples", TOP.parent / "shared/corpus/programs/elf", TOP.parent / "shared/corpus/elves/elf"]
+FOLDERS = [TOP / "examples", TOP / "examples/words"]
 
 
 def programs():
-    """The programs at hand, and random ones."""
+    """The programs of the examples, and random ones."""
     for folder in FOLDERS:
         for path in sorted(folder.glob("*.elf")):
             yield path.name, path.read_bytes()
@@ -54,7 +54,7 @@ class Profiles(unittest.TestCase):
             self.assertTrue(all(n <= e for n, e in zip(r.numbers, words)), name)
             self.assertEqual(sum(words) - sum(r.numbers), r.untold, name)
             exact += not r.untold
-        self.assertGreater(exact, 80)
+        self.assertGreater(exact, 40)
 
     def test_lines_add_up(self):
         for name, program in loaded():
