@@ -5,7 +5,8 @@
     tools/names.py --write    takes out of docs/NAMES.txt what doesn't stand twice any more; it adds nothing
 
 A definition is another one where its type or its body is, apart from comments and white space. Each line of docs/NAMES.txt has a name and
-the crates in which it stands. Records that mirror one another on purpose are in it too: the list may only get shorter.
+the crates in which it stands. Records that mirror one another on purpose are in it too. A new name is added by hand, with a reason in the
+commit; --write only takes out.
 """
 import sys
 

@@ -1,12 +1,14 @@
 #!/usr/bin/env python3
-"""Draws the crates of crates.txt, layer by layer, between the marks of docs/ARCHITECTURE.md.
+"""Draws the crates of crates.txt, layer by layer, between the marks of docs/ARCHITECTURE.md, and counts them in all documents.
 
-    tools/picture.py            writes the picture
-    tools/picture.py --check    writes nothing, and fails where the picture isn't what would be written
+    tools/picture.py            writes the picture and the numbers
+    tools/picture.py --check    writes nothing, and fails where they aren't what would be written
 
-A layer is what stands below a heading `# ---- NAME` of crates.txt. It fails too where a crate stands before one that it stands on. Of the
-dependencies only those are drawn that no other one brings along. Crates of a layer with the same ones share a row.
+A layer is what comes below a heading `# ---- NAME` of crates.txt. It fails too where a crate comes before one that it names, and where a
+crate names one that none of its files names. Of the dependencies only those are drawn that no other one brings along. Crates of a layer
+with the same ones share a row. A number or a list comes between `<!--NAME-->` and `<!---->`, where NAME is crates, layers, levels or chain.
 """
+import re
 import sys
 import textwrap
 from functools import cache
@@ -14,6 +16,7 @@ from pathlib import Path
 
 TOP = Path(__file__).resolve().parent.parent
 PAGE = TOP / "docs" / "ARCHITECTURE.md"
+DOCUMENTS = [TOP / "README.md", *sorted((TOP / "docs").glob("*.md"))]
 BEGIN, END = "<!-- tools/picture.py writes from here -->\n", "<!-- to here -->\n"
 WIDTH = 86
 
@@ -61,6 +64,39 @@ class Graph:
         return [(crate, name) for crate, names in self.below.items() for name in names if self.place[name] > self.place[crate]]
 
 
+    def chain(self):
+        """The crates of a longest chain, the highest first: of several crates that are as good, the last one in crates.txt."""
+        found, names = [], list(self.below)
+        while names:
+            found.append(max(names, key=lambda name: (self.depth(name), self.place[name])))
+            names = self.below[found[-1]]
+        return found
+
+
+def words_of(crate):
+    """The words in the files of a crate."""
+    files = [path for path in (TOP / "crates" / crate).rglob("*") if path.suffix in (".rt", ".antt") and "out" not in path.parts]
+    return {word for path in files for word in re.findall(r"\w+", path.read_text(encoding="utf-8"))}
+
+
+def unused(layers):
+    """The pairs of a crate and one that it names, of the repository or of the kit, and that none of its files names."""
+    for _, crates in layers:
+        for crate, names in crates.items():
+            words = words_of(crate)
+            yield from ((crate, name) for name in names if name not in words)
+
+
+def counted(page, layers):
+    """A page with the numbers in their places."""
+    graph = Graph(layers)
+    chain = graph.chain()
+    texts = {"crates": str(len(graph.below)), "layers": str(len(layers)), "levels": str(len(chain)), "chain": ", ".join(chain)}
+    for name, text in texts.items():
+        page = re.sub(rf"<!--{name}-->.*?<!---->", lambda _: f"<!--{name}-->{text}<!---->", page, flags=re.S)
+    return page
+
+
 def rows_of(graph, crates):
     """The rows of a layer: crates that stand on the same ones, the longest chain below them, and what they stand on."""
     rows = {}
@@ -93,21 +129,29 @@ def page_with(page, lines):
     return before + begin + "\n" + "".join(f"    {line}".rstrip() + "\n" for line in lines) + "\n" + end + after
 
 
+def pages(layers):
+    """Each document that has a picture or a number, with what it should be."""
+    lines = drawing_of(layers)
+    for path in DOCUMENTS:
+        page = path.read_text(encoding="utf-8")
+        yield path, page, counted(page_with(page, lines) if path == PAGE else page, layers)
+
+
 def main(words):
     layers = layers_of((TOP / "crates.txt").read_text(encoding="utf-8"))
-    late = Graph(layers).out_of_order()
-    for crate, name in late:
-        print(f"crates.txt: {crate} stands before {name}, which it names", file=sys.stderr)
-    lines = drawing_of(layers)
-    old = PAGE.read_text(encoding="utf-8")
-    new = page_with(old, lines)
-    if "--check" not in words:
-        PAGE.write_text(new, encoding="utf-8")
-    elif new != old:
-        print("docs/ARCHITECTURE.md hasn't the picture that tools/picture.py writes", file=sys.stderr)
-        return 1
-    print(f"{sum(len(crates) for _, crates in layers)} crates in {len(layers)} layers, {len(lines)} lines")
-    return 1 if late else 0
+    faults = [f"crates.txt: {crate} stands before {name}, which it names" for crate, name in Graph(layers).out_of_order()]
+    faults += [f"crates.txt: {crate} names {name}, which none of its files names" for crate, name in unused(layers)]
+    for path, old, new in pages(layers):
+        if old == new:
+            continue
+        if "--check" in words:
+            faults.append(f"{path.relative_to(TOP)} hasn't what tools/picture.py writes")
+        else:
+            path.write_text(new, encoding="utf-8")
+    for fault in faults:
+        print(fault, file=sys.stderr)
+    print(f"{sum(len(crates) for _, crates in layers)} crates in {len(layers)} layers, {len(Graph(layers).chain())} levels")
+    return 1 if faults else 0
 
 
 if __name__ == "__main__":

@@ -18,6 +18,7 @@ ENDED = rb"\nExitCode\(unix_exit_status\((\d+)\)\)"
 
 STANDS_FOR = {"--table": "--show table", "--words": "--show words", "--source": "--by lines", "--ascii": "--format ascii",
               "--json": "--format json", "--csv": "--format csv"}
+QUIET = ("-q", "--quiet")
 FILES = {"-o": "", "--svg": "--format svg", "--html": "--format html"}
 
 
@@ -30,7 +31,7 @@ def served(words):
             out.append("--procedure")
         if word in FILES:
             file = next(words)
-        out.append(FILES.get(word, STANDS_FOR.get(word, word)))
+        out.append("" if word in QUIET else FILES.get(word, STANDS_FOR.get(word, word)))
     return " ".join(word for word in out if word), file
 
 

@@ -16,8 +16,9 @@ from pathlib import Path
 TOP = Path(__file__).resolve().parent.parent
 PLACES = ("crates", "tools", "reference", "examples")
 # words of other tools, of the shell and of examples, and programs that stand elsewhere
-ALLOWED = set("ci rattle perf tmp Ttext hartN barrier_ WaitsForMutex".split())
-PROGRAMS = {"mandel_perf", "dijkstra_perf", "quicksort_O0"}
+ALLOWED = set("ci rattle perf tmp Ttext hartN barrier_ WaitsForMutex csrr xxd no_std exceptions rtti exit_group".split())
+OPTIONS = {"only"}
+PROGRAMS = {"mandel_perf", "dijkstra_perf", "quicksort_O0", "exit_group", "no_std"}
 WORD = re.compile(r"\w+")
 SNAKE = re.compile(r"[a-z]\w*_\w+")
 INNER = r"(?:[^`\n]|\n(?!\n))+"
@@ -59,7 +60,8 @@ class Repository:
         self.crates = {path.parent.name: words_of(files_of(path.parent.name)) for path in (TOP / "crates").glob("*/src")}
         others = words_of([path for place in PLACES[1:] for path in files_below(TOP / place)])
         self.words = others.union(*self.crates.values())
-        self.options = self.crates["command_words"] | self.crates["pd_words"] | options_of(files_below(TOP / "tools") + files_below(TOP / "examples"))
+        self.options = self.crates["command_words"] | self.crates["pd_words"] | OPTIONS | options_of(
+            [*files_below(TOP / "tools"), *files_below(TOP / "examples"), TOP / "build"])
         self.files = [str(path.relative_to(TOP)) for path in files_below(TOP) if ".git" not in path.parts]
 
     def has_file(self, name):
