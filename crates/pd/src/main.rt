@@ -3,17 +3,22 @@
 
 ghost use Rattle.std.specs.Prelude.{◌≤◌};
 
+mod standard_input;
 mod stderr_sink;
 mod terminal;
+mod text_sink;
 mod ticker;
 
+use crate::standard_input::files_of;
 use crate::stderr_sink::StderrSink;
 use crate::terminal::{STANDARD_ERROR, STANDARD_OUTPUT, is_terminal};
+use crate::text_sink::{Place, TextSink};
 use crate::ticker::Ticker;
+use command_words::read_request;
 use headline::{faults_text, log_name};
-use outside::{DropSink, FileSink, OsFiles, Sink, StdSink};
-use pd_hints::{check, explain, notes};
-use pd_run::{Kind, Screen, Shown, kind_of, may_write, second_kind_of, serve_words};
+use outside::{FileSink, OsFiles};
+use pd_hints::{check, remarks};
+use pd_run::{Kind, Screen, log_kind, may_write, serve_words, status_meaning, written_kind};
 use pd_words::{CheckWords, Serving, Wish, read_wish};
 use pn_types::{MAX_HARTS, NoMemory};
 use refusals::Refusal;
@@ -26,8 +31,8 @@ use std::{env, io};
 /// The status of words that are wrong, and of a file that isn't written over.
 const WRONG: u8 = 2;
 
-/// What is said where the output couldn't be written.
-const NOT_WRITTEN: &str = "pd: could not write all: the disk is full, or there is no such folder\n";
+/// The status where not all could be written.
+const NOT_WRITTEN: u8 = 7;
 
 /// The status where memory ran out.
 const NO_MEMORY: u8 = 8;
@@ -48,85 +53,70 @@ fn refuse(rt: &HostRuntime, why: &str) -> u8 {
     }
 }
 
-/// Returns whether the file of this name may be written, and says why where it may not.
-fn may_write_to(rt: &HostRuntime, name: &str, kind: Kind, force: bool) -> bool {
-    if force || may_write(&mut OsFiles::new(*rt), name, kind) {
-        return true;
-    }
-    let what = match kind {
-        Kind::Log => "log",
-        Kind::Report => "report",
-        Kind::View => "report as it is shown",
-        Kind::Difference => "table of what differs",
-        Kind::Json => "report as JSON",
-        Kind::Csv => "report as CSV",
-        Kind::Svg => "picture of a report",
-        Kind::Html => "page of a report",
-        Kind::Configuration => "configuration of wishes",
-        Kind::Elf => "ELF file",
-        Kind::Callgrind => "callgrind file",
-    };
-    let _ = eprintln!(rt;
-        "pd: {name} is there and is no {what}: nothing was done. With --force it is written over."
-    );
-    false
-}
-
 /// Says on standard error what a text tells a person. Nothing depends on whether it is read.
 fn say(rt: &HostRuntime, text: &str) {
     let _ = eprint!(rt; "{text}");
 }
 
-/// Says what a fault means, or what of a report is easily overlooked.
-fn comment(rt: &HostRuntime, words: &[String], shown: &Shown) -> Result<(), NoMemory> {
-    let alloc = rt.alloc();
-    let text = shown.text.as_slice();
-    match shown.status {
-        0 => say(rt, &notes(alloc, text)?),
-        7 | 8 => {}
-        _ => say(rt, &explain(alloc, text, words, &mut OsFiles::new(*rt))?),
+/// Returns whether a file may be written, if one is named, and says why where it may not.
+fn may_write_to(rt: &HostRuntime, name: Option<&str>, kind: Kind, force: bool) -> bool {
+    let Some(name) = name else {
+        return true;
+    };
+    if force || may_write(&mut OsFiles::new(*rt), name, kind) {
+        return true;
     }
-    Ok(())
+    let what = kind.what();
+    let _ = eprintln!(rt;
+        "pd: {name} is there and isn't {what}: nothing was done. With --force it is written over."
+    );
+    false
 }
 
-/// Serves words with these sinks, and says what there is to say of it.
-fn serve_with<R: Threads + Wait + Sync, K: Sink + Drop, L: Sink>(
+/// Returns the file of a name, or the other place where none is named.
+fn place_of(rt: &HostRuntime, name: Option<&str>, other: Place) -> Result<Place, NoMemory> {
+    match name {
+        Some(name) => Ok(Place::File(FileSink::new(*rt, String::from_str(rt.alloc(), name)?))),
+        None => Ok(other),
+    }
+}
+
+/// Serves words with the places of their output and their log, and says what there is to say of it.
+fn serve_to<R: Threads + Wait + Sync>(
     rt: &HostRuntime,
     threads: &R,
     serving: &Serving,
-    out: K,
-    log: &mut L,
+    out: Place,
+    log: Place,
 ) -> Result<u8, NoMemory> {
-    let err = StderrSink::new(*rt);
-    let mut screen = Screen { out, err };
-    let ticker = Ticker::new(*rt, !serving.quiet && is_terminal(rt, STANDARD_ERROR));
-    let words = serving.words.as_slice();
-    let mut files = OsFiles::new(*rt);
     let alloc = rt.alloc();
-    let shown = serve_words(threads, alloc, words, &mut files, &mut screen, log, &ticker);
-    if shown.status == 7 && screen.out.faults() > 0 {
-        say(rt, NOT_WRITTEN);
+    let words = serving.words.as_slice();
+    let mut files = files_of(rt, words)?;
+    let mut screen = Screen {
+        out: TextSink::new(*rt, out),
+        err: StderrSink::new(*rt),
+    };
+    let mut log = TextSink::new(*rt, log);
+    let ticker = Ticker::new(*rt, !serving.quiet && is_terminal(rt, STANDARD_ERROR));
+    let shown = serve_words(
+        threads,
+        alloc,
+        words,
+        &mut files,
+        &mut screen,
+        &mut log,
+        &ticker,
+    );
+    if shown.status == NOT_WRITTEN && !screen.out.is_closed() {
+        say(rt, status_meaning(NOT_WRITTEN));
     }
     if shown.status != 0 || !serving.quiet {
-        comment(rt, words, &shown)?;
+        // What was done stays done, also where there is no memory to remark on it.
+        if let Ok(text) = remarks(alloc, shown.status, &shown.texts, words, &mut files) {
+            say(rt, &text);
+        }
     }
     Ok(shown.status)
-}
-
-/// Serves words with this output, and the log that they ask for.
-fn serve_to<R: Threads + Wait + Sync, K: Sink + Drop>(
-    rt: &HostRuntime,
-    threads: &R,
-    serving: &Serving,
-    out: K,
-) -> Result<u8, NoMemory> {
-    match log_name(&serving.words) {
-        Some(name) => {
-            let name = String::from_str(rt.alloc(), name)?;
-            serve_with(rt, threads, serving, out, &mut FileSink::new(*rt, name))
-        }
-        None => serve_with(rt, threads, serving, out, &mut DropSink),
-    }
 }
 
 /// Serves what was asked for, where no file is lost by it.
@@ -135,27 +125,36 @@ fn serve<R: Threads + Wait + Sync>(
     threads: &R,
     serving: &Serving,
 ) -> Result<u8, NoMemory> {
-    if let Some(name) = log_name(&serving.words)
-        && !may_write_to(rt, name, second_kind_of(&serving.words), serving.force)
-    {
+    let words = serving.words.as_slice();
+    let output = serving.output.as_ref().map(|name| name.as_str());
+    let log = log_name(words);
+    if output.is_some() && output == log {
+        return Ok(refuse(rt, "two texts can't go to one file"));
+    }
+    // The words are a request: only memory can be missing.
+    let Ok(request) = read_request(rt.alloc(), words) else {
+        return Err(NoMemory {});
+    };
+    let free = may_write_to(rt, output, written_kind(&request), serving.force)
+        && may_write_to(rt, log, log_kind(&request), serving.force);
+    if !free {
         return Ok(WRONG);
     }
-    let kind = kind_of(rt.alloc(), &serving.words);
-    match &serving.output {
-        None => serve_to(rt, threads, serving, StdSink::new(*rt)),
-        Some(name) if may_write_to(rt, name, kind, serving.force) => {
-            let name = String::from_str(rt.alloc(), name)?;
-            serve_to(rt, threads, serving, FileSink::new(*rt, name))
-        }
-        Some(_) => Ok(WRONG),
-    }
+    let out = place_of(rt, output, Place::Screen)?;
+    let log = place_of(rt, log, Place::Nowhere)?;
+    serve_to(rt, threads, serving, out, log)
 }
 
 /// Prints a text that was asked for.
 fn print(rt: &HostRuntime, text: &str) -> u8 {
     match print!(rt; "{text}") {
         Ok(()) => 0,
-        Err(_) => 7,
+        Err(fault) => {
+            if fault.kind() != io::ErrorKind::BrokenPipe {
+                say(rt, status_meaning(NOT_WRITTEN));
+            }
+            NOT_WRITTEN
+        }
     }
 }
 
@@ -209,5 +208,8 @@ fn main(rt: HostRuntime) -> ExitCode {
         Err(fault) if fault.kind() == io::ErrorKind::OutOfMemory => NO_MEMORY,
         Err(_) => refuse(&rt, "a word isn't UTF-8"),
     };
+    if status == NO_MEMORY {
+        say(&rt, status_meaning(NO_MEMORY));
+    }
     ExitCode::from(status)
 }

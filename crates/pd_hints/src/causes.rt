@@ -17,7 +17,7 @@ const CAUSES: [Cause; 10] = [
     },
     Cause {
         begins: "too many statements",
-        says: "More than 32 statements would stand at that address: make several metrics of it.",
+        says: "More than 32 statements would act at that address: make several metrics of it.",
     },
     Cause {
         begins: "over cost",

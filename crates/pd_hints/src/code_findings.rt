@@ -14,6 +14,8 @@ enum Flaw {
     TailCall,
     /// It calls, and has no frame by which its caller is found.
     NoFrame,
+    /// It keeps something else in the frame pointer's register.
+    OtherFrame,
     /// It has a name that the shipped metrics count, and nothing calls it.
     NoCall,
 }
@@ -25,7 +27,7 @@ struct FlawRow {
     says: &'static str,
 }
 
-const FLAWS: [FlawRow; 3] = [
+const FLAWS: [FlawRow; 4] = [
     FlawRow {
         flaw: Flaw::TailCall,
         what: "tail calls in",
@@ -35,6 +37,11 @@ const FLAWS: [FlawRow; 3] = [
         flaw: Flaw::NoFrame,
         what: "no frames in",
         says: "what is measured from mid-run on doesn't see who called them; compile with -fno-omit-frame-pointer",
+    },
+    FlawRow {
+        flaw: Flaw::OtherFrame,
+        what: "s0 is no frame pointer in",
+        says: "what starts to be measured in mid-run takes it for one, and may count a procedure that nobody entered; compile with -fno-omit-frame-pointer, or take --start cold",
     },
     FlawRow {
         flaw: Flaw::NoCall,
@@ -66,6 +73,12 @@ impl<'a> Code<'a> {
         proc_name(proc) != "_start" && !has_frame && steps.iter().any(|step| step.calls())
     }
 
+    fn has_other_frame(&self, proc: &Proc) -> bool {
+        steps_of(self.image, self.steps, proc)
+            .iter()
+            .any(|step| step.takes_frame())
+    }
+
     fn lacks_call(&self, proc: &Proc) -> bool {
         COUNTED.contains(&proc_name(proc))
             && !self.steps.iter().any(|step| step.reaches(proc.start))
@@ -76,6 +89,7 @@ impl<'a> Code<'a> {
         match flaw {
             Flaw::TailCall => self.has_tail_call(proc),
             Flaw::NoFrame => self.lacks_frame(proc),
+            Flaw::OtherFrame => self.has_other_frame(proc),
             Flaw::NoCall => self.lacks_call(proc),
         }
     }

@@ -71,11 +71,7 @@ fn look_again<F: Files>(
 
 /// Returns lines that say what a fault means and what to do, of which `line` is the fixed line and `words` are the words that were
 /// served. The files that these name are read again, to tell what of them is meant. It is empty where the line says all.
-///
-/// # Errors
-///
-/// `NoMemory` where memory runs out.
-pub fn explain<F: Files>(
+pub(crate) fn explain<F: Files>(
     alloc: Global,
     line: &[u8],
     words: &[String],

@@ -25,12 +25,13 @@ mod plan_findings;
 mod procedure_names;
 mod program_names;
 mod programs;
+mod remarking;
 mod source_lines;
 mod steps;
 mod text_places;
 mod texts;
+mod unentered;
 mod variables;
 
 pub use checking::check;
-pub use explaining::explain;
-pub use noting::notes;
+pub use remarking::remarks;

@@ -55,7 +55,7 @@ const PROGRAMS: [Meaning; 22] = [
     },
     Meaning {
         has: "unknown name line",
-        says: "The text has no label, procedure or object of the name that stands there.\n",
+        says: "The text has no label, procedure or object of that name.\n",
     },
     Meaning {
         has: "out of reach line",
@@ -213,7 +213,7 @@ const TOPICS: [Topic; 12] = [
         begins: "no line table",
         meanings: &[Meaning {
             has: "",
-            says: "Compile it with -g, and leave that in: only then it tells which lines its instructions come from.\n",
+            says: "Compile it with -g, and link it without -s: only then does it say which lines its instructions come from.\n",
         }],
     },
     Topic {

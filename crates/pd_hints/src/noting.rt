@@ -156,7 +156,7 @@ impl Reading {
     }
 }
 
-/// Returns what has to be heeded of a profile, of which this is the first line: that it leaves ticks untold.
+/// Returns what has to be heeded of a profile, of which this is the first line: that it leaves ticks unattributed.
 fn profile_note(line: &str) -> &'static str {
     let is_profile = line.starts_with("profile harts ") || line.starts_with("ticks ");
     let is_exact = line.contains(" untold 0 ") || !line.contains(" untold");
@@ -167,24 +167,12 @@ fn profile_note(line: &str) -> &'static str {
     }
 }
 
-/// Returns a line on each thing of a report that has to be heeded: wishes that were refused, harts that were cut or that ended by a fault,
-/// a search of which most wasn't tested, and a profile's ticks that are untold. Empty where there is none, and where the text is neither a
-/// report nor a profile.
-///
-/// # Errors
-///
-/// `NoMemory` where memory runs out.
-pub fn notes(alloc: Global, report: &[u8]) -> Result<String, NoMemory> {
+/// Returns the lines of a report, without its first one and those of the program's own output; none where the text is no report.
+pub(crate) fn report_lines<'a>(alloc: Global, report: &'a [u8]) -> Result<Vec<&'a str>, NoMemory> {
     let mut lines = Lines { rest: report };
-    let mut reading = Reading {
-        text: String::new(alloc),
-        nodes: 0,
-        waiting: 0,
-    };
-    let first = lines.next().unwrap_or("");
-    if first != "paradyn report 1" {
-        reading.text.push_str(profile_note(first))?;
-        return Ok(reading.text);
+    let mut all = Vec::new(alloc);
+    if lines.next() != Some("paradyn report 1") {
+        return Ok(all);
     }
     for _ in 0..report.len() {
         let Some(line) = lines.next() else {
@@ -193,8 +181,28 @@ pub fn notes(alloc: Global, report: &[u8]) -> Result<String, NoMemory> {
         match line.strip_prefix("output ") {
             // The program's own bytes, and the line's end after them.
             Some(count) => lines.pass(count.parse().unwrap_or(0usize).saturating_add(1)),
-            None => reading.take(line)?,
+            None => all.push(line)?,
         }
+    }
+    Ok(all)
+}
+
+/// Returns a line on each thing of a report that has to be heeded: wishes that were refused, harts that were cut or that ended by a fault,
+/// a search of which most wasn't tested, and a profile's unattributed ticks. Empty where there is none, and where the text is neither a
+/// report nor a profile.
+pub(crate) fn notes(alloc: Global, report: &[u8]) -> Result<String, NoMemory> {
+    let lines = report_lines(alloc, report)?;
+    let mut reading = Reading {
+        text: String::new(alloc),
+        nodes: 0,
+        waiting: 0,
+    };
+    if lines.is_empty() {
+        let first = Lines { rest: report }.next().unwrap_or("");
+        reading.text.push_str(profile_note(first))?;
+    }
+    for line in &lines {
+        reading.take(line)?;
     }
     reading.add_search(alloc)?;
     Ok(reading.text)

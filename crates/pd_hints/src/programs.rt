@@ -32,9 +32,7 @@ fn add_flags(text: &mut String, flags: u32) -> Result<(), NoMemory> {
 fn add_procedure(text: &mut String, program: &[u8], address: u64) -> Result<(), NoMemory> {
     match function_at(program, address) {
         Some(name) => add(text, "That is in the procedure '{}'.\n", &[name_text(name)]),
-        None => text.push_str(
-            "No procedure has that address; `objdump -d` tells what stands there.\n",
-        ),
+        None => text.push_str("No procedure has that address; `objdump -d` shows what is there.\n"),
     }
 }
 
@@ -43,7 +41,7 @@ fn kind_of_text(name: &str, program: &str) -> Option<&'static str> {
     if name.ends_with(".c") || program.contains("#include") || program.contains("int main(") {
         Some("That is C, which has to be compiled first, as by `pdcc -o PROGRAM FILE.c`.\n")
     } else if program.contains("include metrics;") {
-        Some("That is a configuration: the program stands before it in the words.\n")
+        Some("That is a configuration: the program comes before it on the command line.\n")
     } else {
         None
     }

@@ -1,7 +1,7 @@
 //! The words of a program, as far as a look at them before a run goes.
 
 use pn_types::{Image, NoMemory, Proc};
-use rv_word::{ImmOp, Instr, StoreOp, decode};
+use rv_word::{ImmOp, Instr, LoadOp, StoreOp, decode};
 use std::alloc::Global;
 
 /// The register of the return address.
@@ -45,6 +45,27 @@ fn target_of(before: Option<Instr>, instr: Instr, at: u64) -> Option<u64> {
 fn instr_of(bytes: &[u8]) -> Option<Instr> {
     match bytes {
         [a, b, c, d] => decode(u32::from_le_bytes([*a, *b, *c, *d])),
+        _ => None,
+    }
+}
+
+/// Returns the register of an instruction's result.
+fn result_of(instr: Instr) -> Option<u32> {
+    match instr {
+        Instr::Lui { rd, .. }
+        | Instr::Auipc { rd, .. }
+        | Instr::Jal { rd, .. }
+        | Instr::Jalr { rd, .. }
+        | Instr::Load { rd, .. }
+        | Instr::OpImm { rd, .. }
+        | Instr::ShiftImm { rd, .. }
+        | Instr::Addiw { rd, .. }
+        | Instr::ShiftImm32 { rd, .. }
+        | Instr::Op { rd, .. }
+        | Instr::Op32 { rd, .. }
+        | Instr::Lr { rd, .. }
+        | Instr::Sc { rd, .. }
+        | Instr::Amo { rd, .. } => Some(rd),
         _ => None,
     }
 }
@@ -145,6 +166,28 @@ impl Step {
                 ..
             })
         )
+    }
+
+    /// Returns whether it writes the frame's pointer, and neither lets it point to the frame, nor takes it back from there, nor says by a
+    /// zero that no frame is above.
+    pub(crate) fn takes_frame(&self) -> bool {
+        match self.instr {
+            Some(
+                Instr::Load {
+                    op: LoadOp::Ld,
+                    rs1: STACK,
+                    ..
+                }
+                | Instr::OpImm {
+                    op: ImmOp::Addi,
+                    rs1: 0,
+                    imm: 0,
+                    ..
+                },
+            ) => false,
+            Some(instr) => result_of(instr) == Some(FRAME) && !self.sets_frame(),
+            None => false,
+        }
     }
 
     /// Returns whether it reaches data by the register gp.

@@ -57,7 +57,7 @@ const HINTS: [Hint; 11] = [
     },
     Hint {
         begins: b"{",
-        says: "No brace stands here, and none stands round statements.\n",
+        says: "There is no brace here, and statements need none around them.\n",
     },
     Hint {
         begins: b"else",
@@ -81,7 +81,7 @@ const HINTS: [Hint; 11] = [
     },
     Hint {
         begins: b"'",
-        says: "Texts stand between double quotes.\n",
+        says: "Put texts between double quotes.\n",
     },
 ];
 
@@ -107,7 +107,7 @@ pub(crate) fn add_form_fault(
 ) -> Result<(), NoMemory> {
     if source.starts_with(b"\x7fELF") {
         return text.push_str(
-            "That is a program (an ELF file), and no text: the program stands first in the words.\n",
+            "That is a program (an ELF file) and not a text: the program comes first on the command line.\n",
         );
     }
     let line = line_at(source, place.line as usize).unwrap_or(b"");

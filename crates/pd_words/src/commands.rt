@@ -246,7 +246,7 @@ static COMMANDS: [CommandRow; 20] = [
         server: Server::Paradyn,
         words: &["LOG", "output", "force", "quiet"],
         optional: &[],
-        summary: "A log in the form that is written now",
+        summary: "A log in the current format",
         example: "Example: pd relog old.log -o new.log",
     },
     CommandRow {

@@ -8,7 +8,7 @@ use clap::{Arg, ArgAction, Command};
 use pn_types::NoMemory;
 use std::alloc::Global;
 
-const VERSION: &str = "1.0 (proved with rattle-kit-13f)";
+const VERSION: &str = "1.0 (for rattle-kit-13f)";
 
 const ABOUT: &str =
     "Tells where the time of a RISC-V program goes: which procedures, which locks, which harts";

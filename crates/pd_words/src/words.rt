@@ -192,7 +192,7 @@ static WORDS: [WordRow; 48] = [
         name: "instruments",
         values: Values::Number(1, MAX_INSTRUMENTS as u64),
         default: Some("64"),
-        what: "How many instruments may stand at once, 1 to 1024",
+        what: "How many instruments may be there at once, 1 to 1024",
         ..OPTION
     },
     WordRow {

@@ -6,7 +6,7 @@ use crate::case::Case;
 use crate::served::print_bytes;
 use headline::faults_text;
 use outside::OpenGate;
-use pd_hints::{check, explain, notes};
+use pd_hints::{check, remarks};
 use pd_run::{Screen, serve_words};
 use pd_words::{CheckWords, Wish, read_wish};
 use pn_types::{MAX_HARTS, NoMemory};
@@ -69,13 +69,13 @@ fn serve<R: Threads + Wait + Sync>(
         &mut log,
         &OpenGate,
     );
-    let text = shown.texts.out.as_slice();
+    let remarks = remarks(alloc, shown.status, &shown.texts, words, &mut files)?;
     if shown.status == 0 {
-        let out = String::from_utf8_lossy(alloc, text)?;
-        return text_sight(alloc, &out, notes(alloc, text)?);
+        let out = String::from_utf8_lossy(alloc, shown.texts.out.as_slice())?;
+        return text_sight(alloc, &out, remarks);
     }
     let mut err = String::from_utf8_lossy(alloc, screen.err.bytes())?;
-    err.push_str(&explain(alloc, text, words, &mut files)?)?;
+    err.push_str(&remarks)?;
     Ok(fault_sight(alloc, shown.status, err))
 }
 
