@@ -8,7 +8,7 @@ use Rattle.rv_exec.specs.Run.{Position, executions, position_of, trace_from}
 use Rattle.pn_types.specs.declared.quantum.Quantum.{Quantum}
 use Rattle.entered.specs.Along.{asked_along, turns_from}
 use Rattle.plain_run.specs.Machines.{Machine}
-use Rattle.entered.specs.Steps.{is_at, state_after, asks_at, after_asked, after_quantum, begins_at, quantum_at}
+use Rattle.entered.specs.Steps.{is_at, state_after, asks_at, after_asked, machine_after, begins_at, quantum_begins_at}
 
 -- lists of asked harts, one after another
 pub state_after-++ : (t : Words) (budget : ℕ) (xs ys : List ℕ) (s : Plain)
@@ -88,7 +88,7 @@ quantum_step t budget a quanta i d s l =
     ∙ asks_at-++ t budget a (replicate (get_or quanta i d).owns (get_or quanta i d).hart) (asked_along (drop (i + 1) quanta)) s
 
 pub quantum_left : (p : Words) (b : ℕ) (m n : Machine) (a : ℕ) (quanta : List Quantum) (i : ℕ) (d : Quantum) (result : Bool)
-    → m.program ≡ p → m.budget ≡ b → i < length quanta → n ≡ after_quantum m (get_or quanta i d) → result ≡ quantum_at m (get_or quanta i d) a
+    → m.program ≡ p → m.budget ≡ b → i < length quanta → n ≡ machine_after m (get_or quanta i d) → result ≡ quantum_begins_at m (get_or quanta i d) a
     → asks_at p b a (asked_along (drop i quanta)) m.state ≡ (result || asks_at p b a (asked_along (drop (i + 1) quanta)) n.state)
 quantum_left p b m n a quanta i d result program budget l e is =
     subst (λ (p : Words). asks_at p b a (asked_along (drop i quanta)) m.state ≡ (result || asks_at p b a (asked_along (drop (i + 1) quanta)) n.state)) program
@@ -96,4 +96,4 @@ quantum_left p b m n a quanta i d result program budget l e is =
     (subst (λ (x : Machine). asks_at m.program m.budget a (asked_along (drop i quanta)) m.state
     ≡ (result || asks_at m.program m.budget a (asked_along (drop (i + 1) quanta)) x.state)) (sym e)
     (quantum_step m.program m.budget a quanta i d m.state l
-    ∙ ap (λ (z : Bool). z || asks_at m.program m.budget a (asked_along (drop (i + 1) quanta)) (after_quantum m (get_or quanta i d)).state) (sym is))))
+    ∙ ap (λ (z : Bool). z || asks_at m.program m.budget a (asked_along (drop (i + 1) quanta)) (machine_after m (get_or quanta i d)).state) (sym is))))

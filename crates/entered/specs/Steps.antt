@@ -20,17 +20,17 @@ asks_at t budget a [] s = false
 asks_at t budget a (h ∷ hs) s =
     (can budget s h && is_at a (slice_get s.harts h)) || asks_at t budget a hs (if can budget s h then plain t h s else s)
 
-abbrev pub with_state : Machine → Plain → Machine
-with_state m s = record { program = m.program; budget = m.budget; state = s }
+abbrev pub with_plain : Machine → Plain → Machine
+with_plain m s = record { program = m.program; budget = m.budget; state = s }
 
 abbrev pub after_asked : Machine → ℕ → Machine
-after_asked m h = with_state m (if can m.budget m.state h then plain m.program h m.state else m.state)
+after_asked m h = with_plain m (if can m.budget m.state h then plain m.program h m.state else m.state)
 
 abbrev pub begins_at : Machine → ℕ → ℕ → Bool
 begins_at m h a = can m.budget m.state h && is_at a (slice_get m.state.harts h)
 
-abbrev pub after_quantum : Machine → Quantum → Machine
-after_quantum m q = with_state m (state_after m.program m.budget (replicate q.owns q.hart) m.state)
+abbrev pub machine_after : Machine → Quantum → Machine
+machine_after m q = with_plain m (state_after m.program m.budget (replicate q.owns q.hart) m.state)
 
-abbrev pub quantum_at : Machine → Quantum → ℕ → Bool
-quantum_at m q a = asks_at m.program m.budget a (replicate q.owns q.hart) m.state
+abbrev pub quantum_begins_at : Machine → Quantum → ℕ → Bool
+quantum_begins_at m q a = asks_at m.program m.budget a (replicate q.owns q.hart) m.state

@@ -5,7 +5,7 @@ ghost use Rattle.pn_types.specs.Images.{IsImage};
 ghost use Rattle.rv_word.specs.Plain.{can};
 ghost use Rattle.plain_run.specs.Machines.{turned};
 ghost use Rattle.entered.specs.Along.{is_entered};
-ghost use Rattle.entered.specs.Steps.{after_asked, begins_at, asks_at, after_quantum, quantum_at};
+ghost use Rattle.entered.specs.Steps.{after_asked, begins_at, asks_at, machine_after, quantum_begins_at};
 
 use plain_run::PlainMachine;
 use pn_types::{HartNo, Image, MAX_HARTS, NoMemory, Quantum};
@@ -36,8 +36,8 @@ fn take_turn(machine: &mut PlainMachine, harts: u32, hart: u32, address: u64) ->
 fn take_quantum(machine: &mut PlainMachine, harts: u32, quantum: &Quantum, address: u64) -> bool
     requires few { harts ≤ MAX_HARTS }
     requires harts { length machine.old.state.harts ≡ harts }
-    ensures after { machine.new ≡ after_quantum machine.old quantum.now }
-    ensures begins { result ≡ quantum_at machine.old quantum.now address }
+    ensures after { machine.new ≡ machine_after machine.old quantum.now }
+    ensures begins { result ≡ quantum_begins_at machine.old quantum.now address }
     ensures harts { length machine.new.state.harts ≡ harts }
 {
     let mut begins = false;
