@@ -94,7 +94,9 @@ class Given:
         """Takes the values of a word."""
         if not values and not word.is_alone:
             raise no_value(word)
-        if word in self.values:
+        if word in self.values and word.kind[0] == "Places":
+            values = self.values[word] + values
+        elif word in self.values:
             raise Wrong(pd_help.wrong("the argument '%s' cannot be used multiple times" % word.shown, pd_help.usage(self.command)))
         for value in values:
             check_value(word, value)

@@ -1,1 +1,4 @@
+pub mod Options
+pub mod Reading
+pub mod Seen
 pub mod Wishes

@@ -1,5 +1,10 @@
 //! The commands.
 
+ghost use Rattle.std.specs.Prelude.{◌≡◌, find, map, option_map};
+ghost use Rattle.std.specs.Str.{bytes_eq};
+ghost use Rattle.pd_words.specs.Options.{command_of_word, typed_commands};
+ghost use Rattle.pd_words.specs.Seen.{command_seen};
+
 use crate::rows::{CommandRow, Server};
 
 static COMMANDS: [CommandRow; 20] = [
@@ -276,11 +281,23 @@ static COMMANDS: [CommandRow; 20] = [
 ];
 
 /// Returns all commands but `help`, in the order in which help lists them.
-pub fn all_commands() -> &'static [CommandRow] {
+#[tactic(auto, unfolding(crate::specs::Options::typed_commands))]
+pub fn all_commands() -> &'static [CommandRow]
+    ensures { map command_seen result.now ≡ typed_commands }
+{
     &COMMANDS
 }
 
+/// Returns the first of some commands whose word this is.
+fn first_named(commands: &[CommandRow], word: &str) -> Option<CommandRow>
+    ensures { result ≡ find (λ row. bytes_eq row.word.now word.now) commands.now }
+{
+    commands.iter().copied().find(|row| row.word == word)
+}
+
 /// Returns the command of a word.
-pub fn command_named(word: &str) -> Option<CommandRow> {
-    all_commands().iter().copied().find(|row| row.word == word)
+pub fn command_named(word: &str) -> Option<CommandRow>
+    ensures { option_map command_seen result ≡ command_of_word word.now }
+{
+    first_named(all_commands(), word)
 }

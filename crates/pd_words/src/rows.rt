@@ -1,5 +1,12 @@
 //! The rows of the tables.
 
+ghost use Rattle.std.specs.Prelude.{◌≡◌};
+ghost use Rattle.std.specs.List.{list_any};
+ghost use Rattle.std.specs.Str.{bytes_eq};
+ghost use Rattle.command_words.specs.Grammar.{is_among};
+ghost use Rattle.pd_words.specs.Options.{takes_place, has_typed_option, has_no_value, is_file_name, is_joined, is_positional};
+ghost use Rattle.pd_words.specs.Seen.{command_seen, meaning_seen, value_seen, row_seen};
+
 /// Where a word stands, and who reads it.
 #[derive(Clone, Copy, Drop)]
 pub enum Kind {
@@ -83,19 +90,74 @@ pub struct CommandRow {
 
 impl Kind {
     /// Returns whether a word is positional.
-    pub fn is_place(self) -> bool {
+    pub fn is_place(self) -> bool
+        ensures { result ≡ is_positional (meaning_seen self) }
+    {
         matches!(self, Kind::Place | Kind::Places | Kind::NamedPlace(_))
     }
+
+    /// Returns whether it is positional, one word or more.
+    pub fn is_joined(self) -> bool
+        ensures { result ≡ is_joined (meaning_seen self) }
+    {
+        matches!(self, Kind::Places)
+    }
+}
+
+impl Values {
+    /// Returns whether there is none.
+    pub fn is_alone(self) -> bool
+        ensures { result ≡ has_no_value (value_seen self) }
+    {
+        matches!(self, Values::Alone)
+    }
+
+    /// Returns whether it is the name of a file.
+    pub fn is_file(self) -> bool
+        ensures { result ≡ is_file_name (value_seen self) }
+    {
+        matches!(self, Values::File)
+    }
+}
+
+/// Returns whether a name is one of these.
+fn is_among(names: &[&str], name: &str) -> bool
+    ensures { result ≡ list_any (λ other. bytes_eq name.now other.now) names.now }
+{
+    names.iter().any(|other| name == *other)
 }
 
 impl CommandRow {
     /// Returns whether it has a word.
-    pub fn has(&self, word: &WordRow) -> bool {
-        self.words.contains(&word.name)
+    pub fn has(&self, word: &WordRow) -> bool
+        ensures { result ≡ is_among (command_seen self.now).names (row_seen word.now).name }
+    {
+        is_among(self.words, word.name)
+    }
+
+    /// Returns whether it has a positional word.
+    pub fn has_place(&self, word: &WordRow) -> bool
+        ensures { result ≡ takes_place (command_seen self.now) (row_seen word.now) }
+    {
+        self.has(word) && word.kind.is_place()
+    }
+
+    /// Returns whether it has an option.
+    pub fn has_option(&self, word: &WordRow) -> bool
+        ensures { result ≡ has_typed_option (command_seen self.now) (row_seen word.now) }
+    {
+        self.has(word) && !word.kind.is_place()
+    }
+
+    /// Returns whether a positional word of it may be left out.
+    pub fn is_optional(&self, word: &WordRow) -> bool
+        ensures { result ≡ is_among (command_seen self.now).optional (row_seen word.now).name }
+    {
+        is_among(self.optional, word.name)
     }
 
     /// Returns whether a word of it may not be left out.
     pub fn needs(&self, word: &WordRow) -> bool {
-        word.kind.is_place() && !self.optional.contains(&word.name)
+        word.kind.is_place() && !self.is_optional(word)
     }
 }

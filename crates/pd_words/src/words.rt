@@ -2,6 +2,10 @@
 //!
 //! Their texts go into help and the man page as they are: none has a backslash, or begins with a dot or a quote.
 
+ghost use Rattle.std.specs.Prelude.{◌≡◌, map};
+ghost use Rattle.pd_words.specs.Options.{typed_words};
+ghost use Rattle.pd_words.specs.Seen.{row_seen};
+
 use crate::rows::{Kind, Values, WordRow};
 use command_words::MAX_VIEWS;
 use pn_types::{
@@ -363,6 +367,9 @@ static WORDS: [WordRow; 48] = [
 
 /// Returns all positional words and options: first the words, each after those that stand before it in commands, and then the options, in
 /// the order in which help lists them.
-pub fn all_words() -> &'static [WordRow] {
+#[tactic(auto, unfolding(crate::specs::Options::typed_words))]
+pub fn all_words() -> &'static [WordRow]
+    ensures { map row_seen result.now ≡ typed_words }
+{
     &WORDS
 }

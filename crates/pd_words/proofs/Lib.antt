@@ -1,0 +1,4 @@
+mod Letters
+mod Mapped
+mod ReadWords
+mod TypedWords

@@ -1,0 +1,13 @@
+use Rattle.std.proofs.Common.{◌∙◌, ◌&&◌, List, ap, find}
+use Rattle.std.specs.Prelude.{option_map}
+use Rattle.pd_words.specs.Options.{TypedWord, has_letter, has_typed_option, option_lettered}
+use Rattle.pd_words.specs.Seen.{command_seen, row_seen}
+use Rattle.pd_words.proofs.Mapped.{find_map}
+use Rattle.pd_words.proofs.rows.CommandRow.option_lettered.Goals as goal
+
+pub returns : goal.returns
+unfolding option_lettered
+returns c =
+    ap (option_map row_seen) c.first_lettered.ensures
+    ∙ find_map (λ word. has_typed_option (command_seen c.args.self.now) word && has_letter c.args.letter.now word) row_seen c.all_words.result.now
+    ∙ ap (λ (words : List TypedWord). find (λ word. has_typed_option (command_seen c.args.self.now) word && has_letter c.args.letter.now word) words) c.all_words.ensures
