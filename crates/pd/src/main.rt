@@ -9,7 +9,7 @@ mod terminal;
 mod text_sink;
 mod ticker;
 
-use crate::standard_input::files_of;
+use crate::standard_input::{files_with_input, name_input};
 use crate::stderr_sink::StderrSink;
 use crate::terminal::{STANDARD_ERROR, STANDARD_OUTPUT, is_terminal};
 use crate::text_sink::{Place, TextSink};
@@ -22,11 +22,11 @@ use pd_run::{Kind, Screen, log_kind, may_write, serve_words, status_meaning, wri
 use pd_words::{CheckWords, Serving, Wish, read_wish};
 use pn_types::{MAX_HARTS, NoMemory};
 use refusals::Refusal;
-use std::alloc::Global;
 use std::process::ExitCode;
 use std::sync::Wait;
 use std::thread::Threads;
 use std::{env, io};
+use std_input::STANDARD_INPUT;
 
 /// The status of words that are wrong, and of a file that isn't written over.
 const WRONG: u8 = 2;
@@ -91,7 +91,7 @@ fn serve_to<R: Threads + Wait + Sync>(
 ) -> Result<u8, NoMemory> {
     let alloc = rt.alloc();
     let words = serving.words.as_slice();
-    let mut files = files_of(rt, words)?;
+    let mut files = files_with_input(rt, name_input(words))?;
     let mut screen = Screen {
         out: TextSink::new(*rt, out),
         err: StderrSink::new(*rt),
@@ -172,8 +172,9 @@ fn harts_of(wanted: &CheckWords) -> u32
 /// Prints what would mislead in a program and a configuration.
 fn look_over(rt: &HostRuntime, wanted: &CheckWords) -> Result<u8, NoMemory> {
     let alloc = rt.alloc();
-    let mut files = OsFiles::new(*rt);
     let conf = wanted.conf.as_ref().map(|name| name.as_str());
+    let is_read = wanted.program.as_str() == STANDARD_INPUT || conf == Some(STANDARD_INPUT);
+    let mut files = files_with_input(rt, is_read)?;
     match check(alloc, &wanted.program, conf, harts_of(wanted), &mut files) {
         Ok(text) => Ok(print(rt, &text)),
         Err(Refusal::Fault(fault)) => {

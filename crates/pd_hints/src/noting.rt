@@ -93,14 +93,14 @@ fn add_end<'t>(
     )
 }
 
-/// Adds why a wish was refused, and what that means.
+/// Adds why a request was refused, and what that means.
 fn add_refusal<'t>(
     text: &mut String,
-    wish: &'t str,
+    request: &'t str,
     cause: &'t str,
     says: &'t str,
 ) -> Result<(), NoMemory> {
-    add(text, "pd: refused {} ({}). {}\n", &[wish, cause, says])
+    add(text, "pd: refused {} ({}). {}\n", &[request, cause, says])
 }
 
 impl Reading {
@@ -132,10 +132,10 @@ impl Reading {
         }
         match line
             .strip_prefix("refused ")
-            .and_then(|wish| wish.rsplit_once(": "))
+            .and_then(|request| request.rsplit_once(": "))
         {
-            Some((wish, cause)) => {
-                add_refusal(&mut self.text, wish, cause, cause_meaning(cause))
+            Some((request, cause)) => {
+                add_refusal(&mut self.text, request, cause, cause_meaning(cause))
             }
             None => Ok(()),
         }
@@ -187,7 +187,7 @@ pub(crate) fn report_lines<'a>(alloc: Global, report: &'a [u8]) -> Result<Vec<&'
     Ok(all)
 }
 
-/// Returns a line on each thing of a report that has to be heeded: wishes that were refused, harts that were cut or that ended by a fault,
+/// Returns a line on each thing of a report that has to be heeded: requests that were refused, harts that were cut or that ended by a fault,
 /// a search of which most wasn't tested, and a profile's unattributed ticks. Empty where there is none, and where the text is neither a
 /// report nor a profile.
 pub(crate) fn notes(alloc: Global, report: &[u8]) -> Result<String, NoMemory> {

@@ -6,7 +6,7 @@ use crate::calls::Call;
 use crate::contents::read_contents;
 use crate::explaining::explain;
 use crate::noting::{notes, report_lines};
-use crate::unentered::{add_unentered, true_nodes};
+use crate::unentered::{add_unentered, has_true_node};
 use command_words::{WordFault, read_request};
 use headline::Texts;
 use outside::Files;
@@ -43,12 +43,12 @@ fn add_doubts<F: Files>(
     ensures { OnlyReads F.holds F.faults files.old files.new }
 {
     let lines = report_lines(alloc, texts.out.as_slice())?;
-    let nodes = true_nodes(alloc, &lines)?;
-    if nodes.is_empty() || texts.log.as_slice().is_empty() {
+    let log = texts.log.as_slice();
+    if log.is_empty() || !lines.iter().any(|line| has_true_node(line)) {
         return Ok(());
     }
     match read_program(alloc, words, files)? {
-        Some(program) => add_unentered(alloc, text, &nodes, texts.log.as_slice(), &program),
+        Some(program) => add_unentered(alloc, text, &lines, log, &program),
         None => Ok(()),
     }
 }

@@ -15,9 +15,12 @@ use std::alloc::{AllocError, Global};
 /// For how many procedures the program is run again at most.
 const MOST_RUNS: usize = 16;
 
+/// How many ticks a quantum has at most.
+const MOST_OWNS: u64 = 65_535;
+
 /// A true node of a search, at a procedure.
 #[derive(Clone, Copy, Drop)]
-pub(crate) struct TrueNode<'a> {
+struct TrueNode<'a> {
     hypothesis: &'a str,
     module: &'a str,
     procedure: &'a str,
@@ -37,11 +40,13 @@ fn true_node<'a>(line: &'a str) -> Option<TrueNode<'a>> {
     })
 }
 
+/// Returns whether a line of a report is of a true node at a procedure.
+pub(crate) fn has_true_node(line: &str) -> bool {
+    true_node(line).is_some()
+}
+
 /// Returns the first true node at each procedure, of the lines of a report.
-pub(crate) fn true_nodes<'a>(
-    alloc: Global,
-    lines: &[&'a str],
-) -> Result<Vec<TrueNode<'a>>, NoMemory> {
+fn true_nodes<'a>(alloc: Global, lines: &[&'a str]) -> Result<Vec<TrueNode<'a>>, NoMemory> {
     let mut nodes: Vec<TrueNode<'a>> = Vec::new(alloc);
     for node in lines.iter().filter_map(|line| true_node(line)) {
         if !nodes.iter().any(|other| other.module == node.module
@@ -53,20 +58,50 @@ pub(crate) fn true_nodes<'a>(
     Ok(nodes)
 }
 
-/// A run, by its log.
+/// Returns the number and the ticks of the hart that a line of a report is of, if it is of one.
+fn hart_ticks(line: &str) -> Option<(u8, u64)> {
+    let (number, rest) = line.strip_prefix("hart ")?.split_once(" ticks ")?;
+    let (ticks, _) = rest.split_once(' ')?;
+    Some((number.parse().ok()?, ticks.parse().ok()?))
+}
+
+/// Adds quanta by which a hart goes on to so many ticks.
+fn add_rest(quanta: &mut Vec<Quantum>, hart: u8, ticks: u64) -> Result<(), NoMemory> {
+    let mut left = ticks;
+    for quantum in quanta.iter().filter(|quantum| quantum.hart == hart) {
+        left = left.saturating_sub(quantum.owns as u64);
+    }
+    for _ in 0..=left / MOST_OWNS {
+        let owns = left.min(MOST_OWNS);
+        quanta.push(Quantum {
+            worker: 0,
+            hart,
+            turns: 1,
+            owns: owns as u16,
+        })?;
+        left -= owns;
+    }
+    Ok(())
+}
+
+/// A run, by its log, in which each hart goes on to the ticks that the report says.
 #[derive(Drop)]
 struct Recording {
     settings: Settings,
     quanta: Vec<Quantum>,
 }
 
-/// Returns the run of a log, if the bytes are one.
-fn recording_of(alloc: Global, log: &[u8]) -> Result<Option<Recording>, NoMemory> {
-    match read(alloc, log) {
-        Ok((settings, quanta)) => Ok(Some(Recording { settings, quanta })),
-        Err(LogError::NoMemory) => Err(AllocError),
-        Err(LogError::Fault(_)) => Ok(None),
+/// Returns the run of a log and of the lines of its report, if the bytes are a log.
+fn recording_of(alloc: Global, log: &[u8], lines: &[&str]) -> Result<Option<Recording>, NoMemory> {
+    let (settings, mut quanta) = match read(alloc, log) {
+        Ok(recording) => recording,
+        Err(LogError::NoMemory) => return Err(AllocError),
+        Err(LogError::Fault(_)) => return Ok(None),
+    };
+    for (hart, ticks) in lines.iter().filter_map(|line| hart_ticks(line)) {
+        add_rest(&mut quanta, hart, ticks)?;
     }
+    Ok(Some(Recording { settings, quanta }))
 }
 
 impl Recording {
@@ -109,15 +144,16 @@ impl Recording {
     }
 }
 
-/// Adds a line on each of these nodes whose procedure the program alone doesn't enter, where it runs in the order of a log.
+/// Adds a line on each true node of a report's lines whose procedure the program alone doesn't enter, where it runs in the order of a log.
 pub(crate) fn add_unentered(
     alloc: Global,
     text: &mut String,
-    nodes: &[TrueNode<'_>],
+    lines: &[&str],
     log: &[u8],
     program: &[u8],
 ) -> Result<(), NoMemory> {
-    let Some(recording) = recording_of(alloc, log)? else {
+    let nodes = true_nodes(alloc, lines)?;
+    let Some(recording) = recording_of(alloc, log, lines)? else {
         return Ok(());
     };
     let inputs = match inputs_of(alloc, program, b"") {
